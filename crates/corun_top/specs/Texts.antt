@@ -122,3 +122,11 @@ refusal_text status.SinkFault = []
 refusal_text status.NoMemory = []
 refusal_text (status.TooLarge which) = codes "too large " ++ which_name which ++ codes "\n"
 refusal_text (status.BadInput which line) = codes "bad " ++ which_name which ++ codes " " ++ decimal line ++ codes "\n"
+
+-- the status of a run's end
+abbrev pub status_of : End → Status
+status_of (ended.Main value) = status.Finished value
+status_of (ended.Undefined kind span) = status.Undefined kind span
+status_of (ended.Uncaught value) = status.Uncaught value
+status_of (ended.Budget worker) = status.Budget worker
+status_of (ended.Limit limit) = status.Limit limit

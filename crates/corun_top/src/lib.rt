@@ -3,6 +3,7 @@
 
 mod end;
 mod line;
+mod report;
 mod status;
 mod texts;
 mod words;
