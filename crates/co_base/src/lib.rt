@@ -5,6 +5,7 @@
 mod fault;
 mod gate;
 mod ids;
+mod integers;
 mod kinds;
 mod mem_files;
 mod mem_sink;
@@ -15,10 +16,12 @@ mod std_sink;
 #[cfg(test)]
 mod tests;
 mod text;
+mod words;
 
 pub use fault::{Failed, NoMemory};
 pub use gate::{Gate, OpenGate};
 pub use ids::{ClassId, CoroId, FuncId, SlotId, SuspendId};
+pub use integers::arith;
 pub use kinds::{AtomicKind, CatchOf, Counts, Limit, Num, Op, Print, Thrown, Undef};
 pub use mem_files::MemFiles;
 pub use mem_sink::MemSink;
@@ -27,3 +30,4 @@ pub use span::Span;
 pub use std_files::StdFiles;
 pub use std_sink::StdSink;
 pub use text::Text;
+pub use words::{bits, convert, value};
