@@ -22,11 +22,11 @@ mod words;
 pub use fault::{Failed, NoMemory};
 pub use gate::{Gate, OpenGate};
 pub use ids::{ClassId, CoroId, FuncId, SlotId, SuspendId};
-pub use integers::arith;
+pub use integers::{arith, is_value};
 pub use kinds::{AtomicKind, CatchOf, Counts, Limit, Num, Op, Print, Thrown, Undef};
 pub use laws::{
-    bits_of_value, converts_by_value, converts_once, converts_to_itself, converts_to_values, gives_truth, gives_values,
-    holds_its_value, is_congruent, is_held, value_of_bits,
+    bits_of_value, converts_by_value, converts_once, converts_to_itself, converts_to_values,
+    gives_truth, gives_values, holds_its_value, is_congruent, is_held, value_of_bits,
 };
 pub use mem_files::MemFiles;
 pub use mem_sink::MemSink;
