@@ -1,0 +1,15 @@
+//! The tokens of a source file: words, names, numbers, text literals and marks, each with its place.
+#![tactic(auto)]
+
+mod fault;
+mod lexer;
+mod place;
+mod scan;
+mod table;
+mod tables;
+mod token;
+
+pub use fault::LexFault;
+pub use lexer::lex;
+pub use tables::{HEADERS, MARKS, WORDS};
+pub use token::{Mark, Token, TokenKind, Word};
