@@ -7,6 +7,8 @@ mod place;
 mod scan;
 mod table;
 mod tables;
+#[cfg(test)]
+mod tests;
 mod token;
 
 pub use fault::LexFault;
