@@ -10,12 +10,14 @@ use Rattle.co_lex.specs.declared.lexer.Line.{Line}
 use Rattle.co_lex.specs.declared.lexer.Line.TheVariants.{Blank, Begun, Include, Included}
 use Rattle.co_lex.specs.declared.lexer.Piece.{Piece}
 use Rattle.co_lex.specs.declared.scan.Class.TheVariants as class
+use Rattle.co_lex.specs.declared.scan.Start.{Start}
+use Rattle.co_lex.specs.declared.scan.Start.TheVariants as start
 use Rattle.co_lex.specs.declared.token.Mark.{Mark}
 use Rattle.co_lex.specs.declared.token.Token.{Token}
 use Rattle.co_lex.specs.declared.token.TokenKind.{TokenKind}
 use Rattle.co_lex.specs.declared.token.TokenKind.TheVariants as kind
 use Rattle.co_lex.specs.Place.{after_byte, position_after}
-use Rattle.co_lex.specs.Scan.{is_blank, is_letter, is_in, run, comment_len, number_of, literal_len, good_len, text_of, kind_of}
+use Rattle.co_lex.specs.Scan.{begins, run, comment_len, number_of, literal_len, good_len, text_of, kind_of}
 use Rattle.co_lex.specs.Table.{word_of, mark_of, header_len}
 
 -- what the code answers is what is defined, unless memory ran out
@@ -52,11 +54,18 @@ line_after Blank ended = Blank
 line_after (Include hash) ended = Include hash
 line_after (Included hash) ended = Included hash
 
+-- some byte is a line feed
+abbrev pub has_feed : List ℕ → Bool
+has_feed bytes = nat_lt (run class.Line bytes) (length bytes)
+
 -- `/*` to the first `*/` behind it
 abbrev pub block_comment : Line → Span → List ℕ → Answer
 block_comment line at z =
     let n = comment_len (drop 2 z) in
-    if nat_lt (n + 2) (length z) then space (line_after line (nat_lt (run class.Line z) (n + 4))) (n + 4) else Err (Unfinished at)
+    if nat_lt (n + 2) (length z) then space (line_after line (has_feed (take (n + 4) z))) (n + 4) else Err (Unfinished at)
+
+abbrev pub start_of : List ℕ → Start
+start_of z = begins (slice_index z 0)
 
 abbrev pub name : List ℕ → Answer
 name z = let n = run class.Name z in token (kind_of (take n z) (word_of (take n z))) n
@@ -85,35 +94,46 @@ mark_piece at (Some m) = token (kind.Mark m.0) m.1
 abbrev pub mark : Span → List ℕ → Answer
 mark at z = mark_piece at (mark_of z)
 
--- a token, by its first byte
-abbrev pub lexeme : Span → List ℕ → Answer
-lexeme at z =
-    let b = slice_index z 0 in
-    if is_letter b then name z else (if is_in class.Digit b then number at z else (if b == 34 then literal at z else mark at z))
-
 abbrev pub include : Span → List ℕ → Answer
 include at z = if starts_with nat_eq z (codes "#include") then space (Include at) 8 else Err (BadDirective at)
 
 abbrev pub header : Span → List ℕ → Answer
 header hash z = if header_len z == 0 then Err (BadDirective hash) else space (Included hash) (header_len z)
 
--- what is no white space: a `#` begins a directive where nothing else stands before it on its line
-abbrev pub solid : Line → Span → List ℕ → Answer
-solid Blank at z = if slice_index z 0 == 35 then include at z else lexeme at z
-solid Begun at z = lexeme at z
-solid (Include hash) at z = header hash z
-solid (Included hash) at z = Err (BadDirective hash)
+-- A token, by what its first byte can begin. A `#` begins a directive where nothing else stands before it on its line.
+abbrev pub lexeme : Start → Line → Span → List ℕ → Answer
+lexeme start.Letter line at z = name z
+lexeme start.Digit line at z = number at z
+lexeme start.Quote line at z = literal at z
+lexeme start.Hash Blank at z = include at z
+lexeme start.Hash _ at z = Err (BadByte at)
+lexeme _ line at z = mark at z
+
+-- what is no white space
+abbrev pub solid : Start → Line → Span → List ℕ → Answer
+solid s (Include hash) at z = header hash z
+solid s (Included hash) at z = Err (BadDirective hash)
+solid s Blank at z = lexeme s Blank at z
+solid s Begun at z = lexeme s Begun at z
+
+-- `//` to the end of its line, or `/* */`, or a mark
+abbrev pub slash : ℕ → Line → Span → List ℕ → Answer
+slash next line at z =
+    if next == 47 then space line (run class.Line z) else (if next == 42 then block_comment line at z else solid start.Slash line at z)
+
+abbrev pub piece : Start → Line → Span → List ℕ → Answer
+piece start.Blank line at z = space line 1
+piece start.Feed line at z = line_feed line
+piece start.Slash line at z = slash (slice_index z 1) line at z
+piece start.Letter line at z = solid start.Letter line at z
+piece start.Digit line at z = solid start.Digit line at z
+piece start.Quote line at z = solid start.Quote line at z
+piece start.Hash line at z = solid start.Hash line at z
+piece start.Other line at z = solid start.Other line at z
 
 -- the piece that the bytes begin with; there is at least one byte
 unfoldable pub next : Line → Span → List ℕ → Answer
-next line at z =
-    let b = slice_index z 0 in
-    let c = slice_index z 1 in
-    if is_blank b then space line 1
-    else (if b == 10 then line_feed line
-    else (if b == 47 && c == 47 then space line (run class.Line z)
-    else (if b == 47 && c == 42 then block_comment line at z
-    else solid line at z)))
+next line at z = piece (start_of z) line at z
 
 abbrev pub Tokens : Type 0
 Tokens = Result (List Token) LexFault

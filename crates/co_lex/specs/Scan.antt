@@ -7,6 +7,8 @@ use Rattle.co_base.specs.declared.kinds.Num.{Num}
 use Rattle.co_base.specs.declared.kinds.Num.TheVariants.{Int, Long, Size}
 use Rattle.co_lex.specs.declared.scan.Class.{Class}
 use Rattle.co_lex.specs.declared.scan.Class.TheVariants as class
+use Rattle.co_lex.specs.declared.scan.Start.{Start}
+use Rattle.co_lex.specs.declared.scan.Start.TheVariants as start
 use Rattle.co_lex.specs.declared.token.TokenKind.{TokenKind}
 use Rattle.co_lex.specs.declared.token.TokenKind.TheVariants as kind
 use Rattle.co_lex.specs.declared.token.Word.{Word}
@@ -18,6 +20,13 @@ is_blank b = b == 32 || (b == 9 || (nat_le 11 b && nat_le b 13))
 -- a letter or `_`
 abbrev pub is_letter : ℕ → Bool
 is_letter b = is_ascii_alphabetic b || b == 95
+
+-- what a byte can begin
+abbrev pub begins : ℕ → Start
+begins b =
+    if is_blank b then start.Blank else (if b == 10 then start.Feed
+    else (if is_letter b then start.Letter else (if is_ascii_digit b then start.Digit
+    else (if b == 34 then start.Quote else (if b == 47 then start.Slash else (if b == 35 then start.Hash else start.Other))))))
 
 abbrev pub is_in : Class → ℕ → Bool
 is_in class.Name b = is_ascii_alphanumeric b || b == 95

@@ -1,12 +1,11 @@
 ghost use Rattle.std.specs.Prelude.{◌≡◌, ◌≢◌, ◌+◌, ◌<◌, ◌≤◌, ◌^◌, ◌++◌, true, Some, None, Ok, length, slice_index, IfOk, IfErr, OnOk};
 ghost use Rattle.co_lex.specs.Lexer as spec;
-ghost use Rattle.co_lex.specs.Scan.{is_letter as is_a_letter, is_in as is_of};
 
 use crate::fault::LexFault;
 use crate::place::position_after;
 use crate::scan::{
-    Class, byte, comment_len, good_len, is_blank, is_in, is_letter, kind_of, literal_len,
-    number_of, run, text_of,
+    Class, Start, begins, byte, comment_len, good_len, kind_of, literal_len, number_of, run,
+    text_of,
 };
 use crate::table::{header_len, mark_of};
 use crate::token::{Token, TokenKind};
@@ -65,6 +64,12 @@ fn line_feed(line: Line) -> Result<Piece, LexFault>
     }
 }
 
+fn has_feed(bytes: &[u8]) -> bool
+    ensures { result ≡ spec.has_feed bytes.now }
+{
+    run(Class::Line, bytes) < bytes.len()
+}
+
 fn line_after(line: Line, has_ended: bool) -> Line
     ensures { result ≡ spec.line_after line has_ended }
 {
@@ -81,15 +86,14 @@ fn block_comment(line: Line, at: Span, z: &[u8]) -> Result<Piece, LexFault>
 {
     let n = comment_len(&z[2..]);
     if n + 2 < z.len() {
-        let has_ended = run(Class::Line, z) < n + 4;
-        space(line_after(line, has_ended), n + 4)
+        space(line_after(line, has_feed(&z[..n + 4])), n + 4)
     } else {
         Err(LexFault::Unfinished(at))
     }
 }
 
 fn name(alloc: Global, z: &[u8]) -> Result<Piece, LexFault>
-    requires { is_a_letter (slice_index z.now 0) ≡ true }
+    requires { Start.Letter ≡ spec.start_of z.now }
     ensures value { spec.Gives result (spec.name z.now) }
     ensures within { IfOk result (λ p. (1 ≤ p.len) × (p.len ≤ length z.now)) }
 {
@@ -98,7 +102,7 @@ fn name(alloc: Global, z: &[u8]) -> Result<Piece, LexFault>
 }
 
 fn number(at: Span, z: &[u8]) -> Result<Piece, LexFault>
-    requires { is_of Class.Digit (slice_index z.now 0) ≡ true }
+    requires { Start.Digit ≡ spec.start_of z.now }
     ensures value { spec.Gives result (spec.number at z.now) }
     ensures within { IfOk result (λ p. (1 ≤ p.len) × (p.len ≤ length z.now)) }
 {
@@ -138,25 +142,6 @@ fn mark(at: Span, z: &[u8]) -> Result<Piece, LexFault>
     }
 }
 
-fn lexeme(alloc: Global, at: Span, z: &[u8]) -> Result<Piece, LexFault>
-    requires some { 0 < length z.now }
-    requires begun { 1 ≤ at.col }
-    requires room { at.line + at.col + length z.now < 2 ^ 32 }
-    ensures value { spec.Gives result (spec.lexeme at z.now) }
-    ensures within { IfOk result (λ p. (1 ≤ p.len) × (p.len ≤ length z.now)) }
-{
-    let b = z[0];
-    if is_letter(b) {
-        name(alloc, z)
-    } else if is_in(Class::Digit, b) {
-        number(at, z)
-    } else if b == b'"' {
-        literal(alloc, at, z)
-    } else {
-        mark(at, z)
-    }
-}
-
 fn include(at: Span, z: &[u8]) -> Result<Piece, LexFault>
     ensures value { spec.Gives result (spec.include at z.now) }
     ensures within { IfOk result (λ p. (1 ≤ p.len) × (p.len ≤ length z.now)) }
@@ -180,24 +165,53 @@ fn header(hash: Span, z: &[u8]) -> Result<Piece, LexFault>
     }
 }
 
-fn solid(alloc: Global, line: Line, at: Span, z: &[u8]) -> Result<Piece, LexFault>
+fn lexeme(alloc: Global, start: Start, line: Line, at: Span, z: &[u8]) -> Result<Piece, LexFault>
     requires some { 0 < length z.now }
+    requires first { start ≡ spec.start_of z.now }
     requires begun { 1 ≤ at.col }
     requires room { at.line + at.col + length z.now < 2 ^ 32 }
-    ensures value { spec.Gives result (spec.solid line at z.now) }
+    ensures value { spec.Gives result (spec.lexeme start line at z.now) }
+    ensures within { IfOk result (λ p. (1 ≤ p.len) × (p.len ≤ length z.now)) }
+{
+    match start {
+        Start::Letter => name(alloc, z),
+        Start::Digit => number(at, z),
+        Start::Quote => literal(alloc, at, z),
+        Start::Hash => match line {
+            Line::Blank => include(at, z),
+            _ => Err(LexFault::BadByte(at)),
+        },
+        _ => mark(at, z),
+    }
+}
+
+fn solid(alloc: Global, start: Start, line: Line, at: Span, z: &[u8]) -> Result<Piece, LexFault>
+    requires some { 0 < length z.now }
+    requires first { start ≡ spec.start_of z.now }
+    requires begun { 1 ≤ at.col }
+    requires room { at.line + at.col + length z.now < 2 ^ 32 }
+    ensures value { spec.Gives result (spec.solid start line at z.now) }
     ensures within { IfOk result (λ p. (1 ≤ p.len) × (p.len ≤ length z.now)) }
 {
     match line {
-        Line::Blank => {
-            if z[0] == b'#' {
-                include(at, z)
-            } else {
-                lexeme(alloc, at, z)
-            }
-        }
-        Line::Begun => lexeme(alloc, at, z),
         Line::Include(hash) => header(hash, z),
         Line::Included(hash) => Err(LexFault::BadDirective(hash)),
+        _ => lexeme(alloc, start, line, at, z),
+    }
+}
+
+fn slash(alloc: Global, line: Line, at: Span, z: &[u8]) -> Result<Piece, LexFault>
+    requires some { 0 < length z.now }
+    requires first { Start.Slash ≡ spec.start_of z.now }
+    requires begun { 1 ≤ at.col }
+    requires room { at.line + at.col + length z.now < 2 ^ 32 }
+    ensures value { spec.Gives result (spec.slash (slice_index z.now 1) line at z.now) }
+    ensures within { IfOk result (λ p. (1 ≤ p.len) × (p.len ≤ length z.now)) }
+{
+    match byte(z, 1) {
+        b'/' => space(line, run(Class::Line, z)),
+        b'*' => block_comment(line, at, z),
+        _ => solid(alloc, Start::Slash, line, at, z),
     }
 }
 
@@ -208,18 +222,12 @@ fn next(alloc: Global, line: Line, at: Span, z: &[u8]) -> Result<Piece, LexFault
     ensures value { spec.Gives result (spec.next line at z.now) }
     ensures within { IfOk result (λ p. (1 ≤ p.len) × (p.len ≤ length z.now)) }
 {
-    let b = z[0];
-    let c = byte(z, 1);
-    if is_blank(b) {
-        space(line, 1)
-    } else if b == b'\n' {
-        line_feed(line)
-    } else if b == b'/' && c == b'/' {
-        space(line, run(Class::Line, z))
-    } else if b == b'/' && c == b'*' {
-        block_comment(line, at, z)
-    } else {
-        solid(alloc, line, at, z)
+    let start = begins(z[0]);
+    match start {
+        Start::Blank => space(line, 1),
+        Start::Feed => line_feed(line),
+        Start::Slash => slash(alloc, line, at, z),
+        _ => solid(alloc, start, line, at, z),
     }
 }
 

@@ -22,19 +22,40 @@ pub enum Class {
     Line,
 }
 
-pub fn is_blank(b: u8) -> bool
+/// What a byte can begin.
+#[derive(Clone, Copy, Debug)]
+pub enum Start {
+    /// White space but a line feed.
+    Blank,
+    /// A line feed.
+    Feed,
+    /// A name or a word.
+    Letter,
+    /// A number.
+    Digit,
+    /// A text literal.
+    Quote,
+    /// A comment or a mark.
+    Slash,
+    /// A directive.
+    Hash,
+    /// A mark, or nothing.
+    Other,
+}
+
+fn is_blank(b: u8) -> bool
     ensures { result ≡ spec.is_blank b }
 {
     b == b' ' || (b == b'\t' || (11 <= b && b <= 13))
 }
 
-pub fn is_letter(b: u8) -> bool
+fn is_letter(b: u8) -> bool
     ensures { result ≡ spec.is_letter b }
 {
     b.is_ascii_alphabetic() || b == b'_'
 }
 
-pub fn is_in(class: Class, b: u8) -> bool
+fn is_in(class: Class, b: u8) -> bool
     ensures { result ≡ spec.is_in class b }
 {
     match class {
@@ -42,6 +63,28 @@ pub fn is_in(class: Class, b: u8) -> bool
         Class::Digit => b.is_ascii_digit(),
         Class::Number => b.is_ascii_alphanumeric() || (b == b'_' || b == b'\''),
         Class::Line => !(b == b'\n'),
+    }
+}
+
+pub fn begins(b: u8) -> Start
+    ensures { result ≡ spec.begins b }
+{
+    if is_blank(b) {
+        Start::Blank
+    } else if b == b'\n' {
+        Start::Feed
+    } else if is_letter(b) {
+        Start::Letter
+    } else if b.is_ascii_digit() {
+        Start::Digit
+    } else if b == b'"' {
+        Start::Quote
+    } else if b == b'/' {
+        Start::Slash
+    } else if b == b'#' {
+        Start::Hash
+    } else {
+        Start::Other
     }
 }
 

@@ -1,24 +1,21 @@
-use Rattle.std.proofs.Common.{rules, arith}
-use Rattle.std.proofs.lemmas.Grind.{common_steps}
-use Rattle.co_lex.specs.Lexer.{next}
+use Rattle.std.proofs.Common.{◌≡◌, rules, sym, subst}
+use Rattle.co_lex.specs.Lexer.{Gives, Answer, next}
+use Rattle.co_lex.proofs.Pieces.{piece-solid}
 use Rattle.co_lex.proofs.lexer.next.Goals as goal
 
-pub returns-then-is_blank-clause-value : goal.returns-then-is_blank-clause-value
+pub returns-in-Blank-clause-value : goal.returns-in-Blank-clause-value
 unfolding next
-returns-then-is_blank-clause-value c = first_of (search rules, grind (arith, common_steps))
+returns-in-Blank-clause-value c = rw (← c.begins-start.ensures, c.in-Blank.is) (search rules)
 
-pub returns-then-b-eq10-clause-value : goal.returns-then-b-eq10-clause-value
+pub returns-in-Feed-clause-value : goal.returns-in-Feed-clause-value
 unfolding next
-returns-then-b-eq10-clause-value c = first_of (search rules, grind (arith, common_steps))
+returns-in-Feed-clause-value c = rw (← c.begins-start.ensures, c.in-Feed.is) (search rules)
 
-pub returns-then-c-eq47-clause-value : goal.returns-then-c-eq47-clause-value
+pub returns-in-Slash-clause-value : goal.returns-in-Slash-clause-value
 unfolding next
-returns-then-c-eq47-clause-value c = first_of (search rules, grind (arith, common_steps))
+returns-in-Slash-clause-value c = rw (← c.begins-start.ensures, c.in-Slash.is) (search rules)
 
-pub returns-then-c-eq42-clause-value : goal.returns-then-c-eq42-clause-value
+pub returns-in_default-clause-value : goal.returns-in_default-clause-value
 unfolding next
-returns-then-c-eq42-clause-value c = first_of (search rules, grind (arith, common_steps))
-
-pub returns-else-b-eq47-2-clause-value : goal.returns-else-b-eq47-2-clause-value
-unfolding next
-returns-else-b-eq47-2-clause-value c = first_of (search rules, grind (arith, common_steps))
+returns-in_default-clause-value c =
+    rw (← c.begins-start.ensures, piece-solid c.begins-start.result c.args.line c.args.at c.args.z.now c.in_default.not-Blank c.in_default.not-Feed c.in_default.not-Slash) c.solid.ensures.value
