@@ -2,3 +2,4 @@ pub mod Numbers
 pub mod Marks
 pub mod Steps
 pub mod Pieces
+pub mod Runs

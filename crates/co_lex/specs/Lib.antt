@@ -2,3 +2,4 @@ pub mod Place
 pub mod Table
 pub mod Scan
 pub mod Lexer
+pub mod Spells

@@ -1,0 +1,91 @@
+-- Which tokens a text is spelled with, as a relation over whole lists: the bytes are white space, directives and the spellings of
+-- tokens, each as long as possible, with `End` after the last byte.
+use Rattle.std.specs.Prelude.{◌≡◌, ◌≢◌, ℕ, ◌+◌, ◌<◌, ◌≤◌, Bool, true, false, ◌⊎◌, List, [], ◌∷◌, ◌++◌, length, slice_index, codes, Option, Some, None, ℤ}
+use Rattle.co_base.specs.declared.span.Span.{Span}
+use Rattle.co_base.specs.declared.kinds.Num.{Num}
+use Rattle.co_lex.specs.declared.fault.LexFault.{LexFault}
+use Rattle.co_lex.specs.declared.fault.LexFault.TheVariants.{BadByte, BadNumber, BadDirective, Unfinished}
+use Rattle.co_lex.specs.declared.lexer.Line.{Line}
+use Rattle.co_lex.specs.declared.lexer.Line.TheVariants.{Blank, Begun, Include, Included}
+use Rattle.co_lex.specs.declared.scan.Class.{Class}
+use Rattle.co_lex.specs.declared.scan.Class.TheVariants as class
+use Rattle.co_lex.specs.declared.scan.Start.{Start}
+use Rattle.co_lex.specs.declared.scan.Start.TheVariants as start
+use Rattle.co_lex.specs.declared.token.Mark.{Mark}
+use Rattle.co_lex.specs.declared.token.Token.{Token}
+use Rattle.co_lex.specs.declared.token.TokenKind.{TokenKind}
+use Rattle.co_lex.specs.declared.token.TokenKind.TheVariants as kind
+use Rattle.co_lex.specs.Place.{position_after}
+use Rattle.co_lex.specs.Scan.{begins, is_in, number_of, kind_of}
+use Rattle.co_lex.specs.Table.{word_of, mark_of, header_len}
+use Rattle.co_lex.specs.Lexer.{line_after, has_feed, token_at, start_of, lexed}
+
+-- each byte is of the class
+abbrev pub AllIn : Class → List ℕ → Type 0
+AllIn c [] = Unit {0}
+AllIn c (b ∷ z) = (is_in c b ≡ true) × AllIn c z
+
+-- what begins with no byte of the class, so that a run of them before it is as long as possible
+abbrev pub Stops : Class → List ℕ → Type 0
+Stops c [] = Unit {0}
+Stops c (b ∷ z) = is_in c b ≡ false
+
+-- no `*/` stands in the bytes
+abbrev pub NoClose : List ℕ → Type 0
+NoClose [] = Unit {0}
+NoClose (b ∷ z) = (b ≡ 42 → slice_index z 0 ≡ 47 → ⊥) × NoClose z
+
+-- the bytes between the quotes of a text literal, and what they stand for
+pub data Quotes : List ℕ → List ℕ → Type 0 where
+  none : Quotes [] []
+  plain : (b : ℕ) (body text : List ℕ) → 32 ≤ b → b ≤ 126 → b ≢ 34 → b ≢ 92 → Quotes body text → Quotes (b ∷ body) (b ∷ text)
+  escape : (b : ℕ) (body text : List ℕ) → (b ≡ 34) ⊎ (b ≡ 92) → Quotes body text → Quotes (92 ∷ b ∷ body) (b ∷ text)
+
+-- a `#include` has its header
+abbrev pub MayEnd : Line → Type 0
+MayEnd Blank = Unit {0}
+MayEnd Begun = Unit {0}
+MayEnd (Include hash) = ⊥
+MayEnd (Included hash) = Unit {0}
+
+-- no directive stands on the line
+abbrev pub IsOpen : Line → Type 0
+IsOpen Blank = Unit {0}
+IsOpen Begun = Unit {0}
+IsOpen (Include hash) = ⊥
+IsOpen (Included hash) = ⊥
+
+-- neither white space nor a comment
+abbrev pub IsSolid : Start → Type 0
+IsSolid s = (s ≢ start.Blank) × (s ≢ start.Feed) × (s ≢ start.Slash)
+
+-- what begins no comment, and is no other token than a mark
+abbrev pub BeginsMark : List ℕ → Type 0
+BeginsMark z = (start_of z ≡ start.Other) ⊎ ((start_of z ≡ start.Slash) × (slice_index z 1 ≢ 47) × (slice_index z 1 ≢ 42))
+
+-- The first bytes, before the rest, spell this token.
+pub data IsToken : List ℕ → List ℕ → TokenKind → Type 0 where
+  -- a letter or `_`, then letters, digits and `_`; a word where it is one
+  named : (front rest : List ℕ) → start_of front ≡ start.Letter → AllIn class.Name front → Stops class.Name rest → IsToken front rest (kind_of front (word_of front))
+  -- a number, with no letter, digit, `_` or `'` right after it
+  number : (front rest : List ℕ) (num : Num) (value : ℤ) → start_of front ≡ start.Digit → AllIn class.Number front → Stops class.Number rest → number_of front ≡ Some (num, value) → IsToken front rest (kind.Int num value)
+  literal : (body text rest : List ℕ) → Quotes body text → IsToken (34 ∷ (body ++ 34 ∷ [])) rest (kind.Lit text)
+  -- the first mark, of those listed from the longest on, that the bytes begin with
+  mark : (front rest : List ℕ) (m : Mark) → BeginsMark (front ++ rest) → mark_of (front ++ rest) ≡ Some (m, length front) → IsToken front rest (kind.Mark m)
+
+-- The first bytes, before the rest, are white space, a part of a directive, or a token; and what stands on the line before and after.
+pub data IsPiece : Line → Span → List ℕ → List ℕ → Option TokenKind → Line → Type 0 where
+  blank : (line : Line) (at : Span) (b : ℕ) (rest : List ℕ) → begins b ≡ start.Blank → IsPiece line at (b ∷ []) rest None line
+  feed : (line : Line) (at : Span) (b : ℕ) (rest : List ℕ) → begins b ≡ start.Feed → MayEnd line → IsPiece line at (b ∷ []) rest None Blank
+  line_comment : (line : Line) (at : Span) (text rest : List ℕ) → AllIn class.Line text → Stops class.Line rest → IsPiece line at (47 ∷ 47 ∷ text) rest None line
+  block_comment : (line : Line) (at : Span) (text rest : List ℕ) → NoClose (text ++ 42 ∷ []) → IsPiece line at (47 ∷ 42 ∷ (text ++ 42 ∷ 47 ∷ [])) rest None (line_after line (has_feed (47 ∷ 42 ∷ (text ++ 42 ∷ 47 ∷ []))))
+  include : (at : Span) (rest : List ℕ) → IsPiece Blank at (codes "#include") rest None (Include at)
+  header : (hash at : Span) (front rest : List ℕ) → IsSolid (start_of (front ++ rest)) → 0 < length front → header_len (front ++ rest) ≡ length front → IsPiece (Include hash) at front rest None (Included hash)
+  token : (line : Line) (at : Span) (front rest : List ℕ) (k : TokenKind) → IsOpen line → IsToken front rest k → IsPiece line at front rest (Some k) Begun
+
+pub data SpellsFrom : Line → Span → List ℕ → List Token → Type 0 where
+  ends : (line : Line) (at : Span) → MayEnd line → SpellsFrom line at [] (record { kind = kind.End; span = at } ∷ [])
+  piece : (line : Line) (at : Span) (front rest : List ℕ) (token : Option TokenKind) (after : Line) (tokens : List Token) → IsPiece line at front rest token after → SpellsFrom after (position_after at front) rest tokens → SpellsFrom line at (front ++ rest) (token_at at token ++ tokens)
+
+abbrev pub Spells : List ℕ → List Token → Type 0
+Spells bytes tokens = SpellsFrom Blank (record { line = 1; col = 1 }) bytes tokens
