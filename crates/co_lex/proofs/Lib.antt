@@ -3,3 +3,4 @@ pub mod Marks
 pub mod Steps
 pub mod Pieces
 pub mod Runs
+pub mod Complete
