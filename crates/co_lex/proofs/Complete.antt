@@ -102,10 +102,20 @@ block-front line at text w rest e none =
     let whole : length text + 4 ≡ suc (suc (length w)) = omega arith in
     rw (n, within, whole, take_at w rest (length w) refl) refl
 
-header-front : (hash at : Span) (front rest : List ℕ) → IsSolid (start_of (front ++ rest)) → 0 < length front → header_len (front ++ rest) ≡ length front → next (Include hash) at (front ++ rest) ≡ made None (length front) (Included hash)
+solid_at : (s : Start) (line : Line) (at : Span) (z : List ℕ) → s ≢ start.Blank → s ≢ start.Feed → (s ≡ start.Slash → (get_or z 1 0 ≢ 47) × (get_or z 1 0 ≢ 42)) → piece s line at z ≡ solid s line at z
+solid_at start.Blank line at z b f c = absurd (b refl)
+solid_at start.Feed line at z b f c = absurd (f refl)
+solid_at start.Slash line at z b f c = let h = c refl in rw (differs (get_or z 1 0) 47 h.0, differs (get_or z 1 0) 42 h.1) refl
+solid_at start.Letter line at z b f c = refl
+solid_at start.Digit line at z b f c = refl
+solid_at start.Quote line at z b f c = refl
+solid_at start.Hash line at z b f c = refl
+solid_at start.Other line at z b f c = refl
+
+header-front : (hash at : Span) (front rest : List ℕ) → IsSolid (front ++ rest) → 0 < length front → header_len (front ++ rest) ≡ length front → next (Include hash) at (front ++ rest) ≡ made None (length front) (Included hash)
 unfolding next
 header-front hash at front rest h some e =
-    piece-solid (start_of (front ++ rest)) (Include hash) at (front ++ rest) h.0 h.1 h.2 ∙ rw (e, not_zero (length front) some) refl
+    solid_at (start_of (front ++ rest)) (Include hash) at (front ++ rest) h.0 h.1 h.2 ∙ rw (e, not_zero (length front) some) refl
 
 pub piece-front : (line : Line) (at : Span) (front rest : List ℕ) (token : Option TokenKind) (after : Line) → IsPiece line at front rest token after → next line at (front ++ rest) ≡ made token (length front) after
 unfolding next

@@ -55,11 +55,11 @@ IsOpen Begun = Unit {0}
 IsOpen (Include hash) = ⊥
 IsOpen (Included hash) = ⊥
 
--- neither white space nor a comment
-abbrev pub IsSolid : Start → Type 0
-IsSolid s = (s ≢ start.Blank) × (s ≢ start.Feed) × (s ≢ start.Slash)
+-- what begins with neither white space nor a comment
+abbrev pub IsSolid : List ℕ → Type 0
+IsSolid z = (start_of z ≢ start.Blank) × (start_of z ≢ start.Feed) × (start_of z ≡ start.Slash → (slice_index z 1 ≢ 47) × (slice_index z 1 ≢ 42))
 
--- what begins no comment, and is no other token than a mark
+-- nor with another token than a mark
 abbrev pub BeginsMark : List ℕ → Type 0
 BeginsMark z = (start_of z ≡ start.Other) ⊎ ((start_of z ≡ start.Slash) × (slice_index z 1 ≢ 47) × (slice_index z 1 ≢ 42))
 
@@ -80,7 +80,7 @@ pub data IsPiece : Line → Span → List ℕ → List ℕ → Option TokenKind 
   line_comment : (line : Line) (at : Span) (text rest : List ℕ) → AllIn class.Line text → Stops class.Line rest → IsPiece line at (47 ∷ 47 ∷ text) rest None line
   block_comment : (line : Line) (at : Span) (text rest : List ℕ) → NoClose (text ++ 42 ∷ []) → IsPiece line at (47 ∷ 42 ∷ (text ++ 42 ∷ 47 ∷ [])) rest None (line_after line (has_feed (47 ∷ 42 ∷ (text ++ 42 ∷ 47 ∷ []))))
   include : (at : Span) (rest : List ℕ) → IsPiece Blank at (codes "#include") rest None (Include at)
-  header : (hash at : Span) (front rest : List ℕ) → IsSolid (start_of (front ++ rest)) → 0 < length front → header_len (front ++ rest) ≡ length front → IsPiece (Include hash) at front rest None (Included hash)
+  header : (hash at : Span) (front rest : List ℕ) → IsSolid (front ++ rest) → 0 < length front → header_len (front ++ rest) ≡ length front → IsPiece (Include hash) at front rest None (Included hash)
   token : (line : Line) (at : Span) (front rest : List ℕ) (k : TokenKind) → IsOpen line → IsToken front rest k → IsPiece line at front rest (Some k) Begun
 
 pub data SpellsFrom : Line → Span → List ℕ → List Token → Type 0 where
