@@ -1,6 +1,6 @@
 -- Which tokens a text is spelled with, as a relation over whole lists: the bytes are white space, directives and the spellings of
 -- tokens, each as long as possible, with `End` after the last byte.
-use Rattle.std.specs.Prelude.{◌≡◌, ◌≢◌, ℕ, ◌+◌, ◌<◌, ◌≤◌, Bool, true, false, ◌⊎◌, List, [], ◌∷◌, ◌++◌, length, slice_index, codes, Option, Some, None, ℤ}
+use Rattle.std.specs.Prelude.{◌≡◌, ◌≢◌, ℕ, ◌+◌, ◌<◌, ◌≤◌, Bool, true, false, if◌then◌else◌, ◌==◌, ◌↔◌, ◌⊎◌, List, [], ◌∷◌, ◌++◌, length, take, drop, slice_index, codes, Option, Some, None, Ok, Err, ℤ}
 use Rattle.co_base.specs.declared.span.Span.{Span}
 use Rattle.co_base.specs.declared.kinds.Num.{Num}
 use Rattle.co_lex.specs.declared.fault.LexFault.{LexFault}
@@ -16,7 +16,7 @@ use Rattle.co_lex.specs.declared.token.Token.{Token}
 use Rattle.co_lex.specs.declared.token.TokenKind.{TokenKind}
 use Rattle.co_lex.specs.declared.token.TokenKind.TheVariants as kind
 use Rattle.co_lex.specs.Place.{position_after}
-use Rattle.co_lex.specs.Scan.{begins, is_in, number_of, kind_of}
+use Rattle.co_lex.specs.Scan.{begins, is_in, number_of, literal_len, good_len, kind_of}
 use Rattle.co_lex.specs.Table.{word_of, mark_of, header_len}
 use Rattle.co_lex.specs.Lexer.{line_after, has_feed, token_at, start_of, lexed}
 
@@ -89,3 +89,58 @@ pub data SpellsFrom : Line → Span → List ℕ → List Token → Type 0 where
 
 abbrev pub Spells : List ℕ → List Token → Type 0
 Spells bytes tokens = SpellsFrom Blank (record { line = 1; col = 1 }) bytes tokens
+
+-- ---- faults
+
+-- a literal that ends on its line is refused at its first byte or escape that may not stand there, else at its `"`
+abbrev pub literal_fault : Span → List ℕ → LexFault
+literal_fault at z =
+    let n = literal_len false (drop 1 z) in
+    if slice_index z (n + 1) == 34 then BadByte (position_after at (take (good_len false (take n (drop 1 z)) + 1) z)) else Unfinished at
+
+abbrev pub token_fault : Start → Line → Span → List ℕ → LexFault
+token_fault start.Digit line at z = BadNumber at
+token_fault start.Quote line at z = literal_fault at z
+token_fault start.Hash Blank at z = BadDirective at
+token_fault _ line at z = BadByte at
+
+-- a directive is refused at its `#`, whatever stands in it
+abbrev pub solid_fault : Start → Line → Span → List ℕ → LexFault
+solid_fault s (Include hash) at z = BadDirective hash
+solid_fault s (Included hash) at z = BadDirective hash
+solid_fault s Blank at z = token_fault s Blank at z
+solid_fault s Begun at z = token_fault s Begun at z
+
+abbrev pub fault_by : Start → Line → Span → List ℕ → LexFault
+fault_by start.Slash line at z = if slice_index z 1 == 42 then Unfinished at else solid_fault start.Slash line at z
+fault_by s line at z = solid_fault s line at z
+
+-- the fault of bytes that no piece stands in front of, by what their first byte can begin
+abbrev pub fault_of : Line → Span → List ℕ → LexFault
+fault_of line at z = fault_by (start_of z) line at z
+
+-- the file doesn't end here, and no piece stands here
+abbrev pub IsStuck : Line → Span → List ℕ → Type 0
+IsStuck line at z = (z ≡ [] → MayEnd line → ⊥) × ((front rest : List ℕ) (token : Option TokenKind) (after : Line) → z ≡ front ++ rest → IsPiece line at front rest token after → ⊥)
+
+-- the first place where the bytes are spelled no further, and its fault
+pub data FailsFrom : Line → Span → List ℕ → LexFault → Type 0 where
+  here : (line : Line) (at : Span) (z : List ℕ) → IsStuck line at z → FailsFrom line at z (fault_of line at z)
+  later : (line : Line) (at : Span) (front rest : List ℕ) (token : Option TokenKind) (after : Line) (fault : LexFault) → IsPiece line at front rest token after → FailsFrom after (position_after at front) rest fault → FailsFrom line at (front ++ rest) fault
+
+abbrev pub Fails : List ℕ → LexFault → Type 0
+Fails bytes fault = FailsFrom Blank (record { line = 1; col = 1 }) bytes fault
+
+-- ---- laws
+
+-- the tokens of a text are those that it is spelled with
+abbrev pub TokensSpell : Type 0
+TokensSpell = (bytes : List ℕ) (tokens : List Token) → (lexed bytes ≡ Ok tokens) ↔ Spells bytes tokens
+
+-- a text is spelled with one list of tokens at most
+abbrev pub SpelledOnce : Type 0
+SpelledOnce = (bytes : List ℕ) (tokens others : List Token) → Spells bytes tokens → Spells bytes others → tokens ≡ others
+
+-- the fault of a text is that of the first place where it is spelled no further
+abbrev pub FaultIsFirst : Type 0
+FaultIsFirst = (bytes : List ℕ) (fault : LexFault) → (lexed bytes ≡ Err fault) ↔ Fails bytes fault
