@@ -1,19 +1,18 @@
 -- What the relation calls a piece is the piece that the bytes begin with.
-use Rattle.std.proofs.Common.{◌≡◌, ◌≢◌, ℕ, zero, suc, ◌+◌, ◌-◌, ◌<◌, ◌≤◌, Bool, true, false, cond, eqb, ltb, leb, List, [], ◌∷◌, ◌++◌, length, take, drop, get_or, Option, Some, None, Ok, Err, refl, sym, ap, ◌∙◌, subst, ◌⊎◌, inl, inr, append_assoc, length-append, arith, rules, codes}
+use Rattle.std.proofs.Common.{◌≡◌, ◌≢◌, ℕ, suc, ◌+◌, ◌<◌, true, false, eqb, ltb, List, [], ◌∷◌, ◌++◌, length, get_or, Option, Some, None, Ok, refl, sym, ap, ◌∙◌, inl, inr, append_assoc, length-append, arith}
 use Rattle.std.proofs.lemmas.Bool.Decides.{nat_tests}
-use Rattle.std.proofs.lemmas.List.{take_at, drop_at, get_or_at}
+use Rattle.std.proofs.lemmas.List.{take_at, get_or_at}
 use Rattle.co_base.specs.declared.span.Span.{Span}
 use Rattle.co_lex.specs.declared.lexer.Line.{Line}
 use Rattle.co_lex.specs.declared.lexer.Line.TheVariants.{Blank, Begun, Include, Included}
-use Rattle.co_lex.specs.declared.lexer.Piece.{Piece}
 use Rattle.co_lex.specs.declared.scan.Class.TheVariants as class
 use Rattle.co_lex.specs.declared.scan.Start.{Start}
 use Rattle.co_lex.specs.declared.scan.Start.TheVariants as start
 use Rattle.co_lex.specs.declared.token.TokenKind.{TokenKind}
 use Rattle.co_lex.specs.declared.token.TokenKind.TheVariants as kind
-use Rattle.co_lex.specs.Scan.{begins, run, comment_len, literal_len, good_len, text_of, number_of, kind_of}
-use Rattle.co_lex.specs.Table.{word_of, mark_of, header_len}
-use Rattle.co_lex.specs.Lexer.{Answer, start_of, line_after, has_feed, space, token, name, number, number_piece, literal, mark, mark_piece, header, lexeme, solid, block_comment, slash, piece, next}
+use Rattle.co_lex.specs.Scan.{begins, comment_len, number_of, kind_of}
+use Rattle.co_lex.specs.Table.{word_of, header_len}
+use Rattle.co_lex.specs.Lexer.{Answer, start_of, line_after, has_feed, token, name, number, literal, mark, mark_piece, lexeme, solid, block_comment, piece, next}
 use Rattle.co_lex.specs.Spells.{AllIn, Stops, NoClose, Quotes, MayEnd, IsOpen, IsSolid, BeginsMark, IsToken, named, IsPiece, blank, feed, line_comment, include}
 use Rattle.co_lex.specs.Spells as s
 use Rattle.co_lex.proofs.Runs.{run-front, comment-front, literal-front, good-front, text-front}

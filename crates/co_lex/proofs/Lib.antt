@@ -5,4 +5,4 @@ pub mod Pieces
 pub mod Runs
 pub mod Complete
 pub mod Sound
-pub mod Laws
+pub mod Spelling

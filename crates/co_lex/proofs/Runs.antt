@@ -1,9 +1,8 @@
 -- Runs of bytes of a class, comments, and text literals: what the lengths say of the bytes, and what the bytes say of the lengths.
-use Rattle.std.proofs.Common.{◌≡◌, ◌≢◌, ℕ, zero, suc, ◌+◌, ◌-◌, ◌<◌, ◌≤◌, Bool, true, false, not, ◌&&◌, ◌||◌, cond, eqb, leb, List, [], ◌∷◌, ◌++◌, length, take, drop, get_or, refl, sym, ap, ◌∙◌, subst, inl, inr, ◌⊎◌, arith, rules}
+use Rattle.std.proofs.Common.{◌≡◌, ◌≢◌, ℕ, suc, ◌+◌, ◌<◌, ◌≤◌, Bool, true, false, ◌&&◌, ◌||◌, cond, eqb, leb, List, [], ◌∷◌, ◌++◌, length, take, drop, get_or, refl, sym, ap, ◌∙◌, subst, ◌⊎◌, arith}
 use Rattle.std.proofs.lemmas.Bool.Decides.{nat_tests}
 use Rattle.co_lex.specs.declared.scan.Class.{Class}
-use Rattle.co_lex.specs.declared.scan.Class.TheVariants as class
-use Rattle.co_lex.specs.Scan.{is_in, run, comment_len, literal_len, good_len, is_good, text_of}
+use Rattle.co_lex.specs.Scan.{is_in, run, comment_len, literal_len, good_len, text_of}
 use Rattle.co_lex.specs.Spells.{AllIn, Stops, NoClose, Quotes, none, plain, escape}
 
 -- ---- runs
@@ -136,10 +135,10 @@ at_byte b z false true t92 e34 e10 e92 ih escaped = rw (e34, e10) (λ closed goo
 at_byte b z false false true e34 e10 e92 ih escaped = subst (λ c. Sound (c ∷ z)) (is_92 b e92) escaped
 at_byte b z false false false e34 e10 e92 ih escaped =
     rw (e34, e10, e92)
-        (λ closed good.
-            let g = good_step (leb 32 b && leb b 126) (literal_len false z) (good_len false (take (literal_len false z) z)) good in
-            let t = from_plain b e34 e92 g.0 in
-            plain b (take (literal_len false z) z) (text_of false (take (literal_len false z) z)) t.0 t.1 t.2 t.3 (ih closed g.1))
+    (λ closed good.
+    let g = good_step (leb 32 b && leb b 126) (literal_len false z) (good_len false (take (literal_len false z) z)) good in
+    let t = from_plain b e34 e92 g.0 in
+    plain b (take (literal_len false z) z) (text_of false (take (literal_len false z) z)) t.0 t.1 t.2 t.3 (ih closed g.1))
 
 escaped_nil : Sound (92 ∷ [])
 escaped_nil closed good = absurd (omega arith)
@@ -148,9 +147,9 @@ escaped_at : (c : ℕ) (z : List ℕ) (t : Bool) → eqb c 10 ≡ t → Sound z 
 escaped_at c z true e ih = rw e (λ closed good. absurd (apart_34 c e closed))
 escaped_at c z false e ih =
     rw e
-        (λ closed good.
-            let g = good_two (eqb c 34 || eqb c 92) (literal_len false z) (good_len false (take (literal_len false z) z)) good in
-            escape c (take (literal_len false z) z) (text_of false (take (literal_len false z) z)) (from_escape c g.0) (ih closed g.1))
+    (λ closed good.
+    let g = good_two (eqb c 34 || eqb c 92) (literal_len false z) (good_len false (take (literal_len false z) z)) good in
+    escape c (take (literal_len false z) z) (text_of false (take (literal_len false z) z)) (from_escape c g.0) (ih closed g.1))
 
 pub literal-sound : (z : List ℕ) → Sound z
 literal-sound [] = λ closed good. absurd (omega arith)

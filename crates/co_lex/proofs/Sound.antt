@@ -1,14 +1,13 @@
 -- The piece that the bytes begin with is what the relation calls one.
-use Rattle.std.proofs.Common.{◌≡◌, ◌≢◌, ℕ, zero, suc, ◌+◌, ◌-◌, ◌<◌, ◌≤◌, Bool, true, false, cond, eqb, ltb, leb, List, [], ◌∷◌, ◌++◌, length, take, drop, get_or, nat_eq, Option, Some, None, IfSome, Ok, Err, refl, sym, ap, ◌∙◌, subst, ◌⊎◌, inl, inr, append_assoc, length-append, take-append-drop, length-drop, arith, rules, codes, ℤ}
-use Rattle.std.specs.List.{starts_with, prefix_len}
+use Rattle.std.proofs.Common.{◌≡◌, ◌≢◌, ℕ, zero, suc, ◌+◌, ◌<◌, ◌≤◌, Bool, true, false, cond, eqb, ltb, List, [], ◌∷◌, ◌++◌, length, take, drop, get_or, nat_eq, Option, Some, None, IfSome, Ok, Err, refl, sym, ap, ◌∙◌, subst, inl, inr, append_assoc, length-append, take-append-drop, arith, codes, ℤ}
+use Rattle.std.specs.List.{starts_with}
 use Rattle.std.proofs.lemmas.Bool.Decides.{nat_tests, Decides-eqb}
 use Rattle.std.proofs.lemmas.List.{take_at, drop_at, take_more, get_or_past, length-take-le}
 use Rattle.std.proofs.lemmas.List.Sums.{prefix_len-le-length}
 use Rattle.std.proofs.lemmas.Slice.Eq.{starts_is}
 use Rattle.co_base.specs.declared.span.Span.{Span}
 use Rattle.co_base.specs.declared.kinds.Num.{Num}
-use Rattle.co_lex.specs.declared.fault.LexFault.{LexFault}
-use Rattle.co_lex.specs.declared.fault.LexFault.TheVariants.{BadByte, BadNumber, BadDirective, Unfinished}
+use Rattle.co_lex.specs.declared.fault.LexFault.TheVariants.{BadByte, BadDirective, Unfinished}
 use Rattle.co_lex.specs.declared.lexer.Line.{Line}
 use Rattle.co_lex.specs.declared.lexer.Line.TheVariants.{Blank, Begun, Include, Included}
 use Rattle.co_lex.specs.declared.lexer.Piece.{Piece}
@@ -17,11 +16,10 @@ use Rattle.co_lex.specs.declared.scan.Class.TheVariants as class
 use Rattle.co_lex.specs.declared.scan.Start.{Start}
 use Rattle.co_lex.specs.declared.scan.Start.TheVariants as start
 use Rattle.co_lex.specs.declared.token.Mark.{Mark}
-use Rattle.co_lex.specs.declared.token.TokenKind.{TokenKind}
 use Rattle.co_lex.specs.declared.token.TokenKind.TheVariants as kind
 use Rattle.co_lex.specs.Place.{position_after}
-use Rattle.co_lex.specs.Scan.{begins, is_in, run, comment_len, literal_len, good_len, text_of, number_of, kind_of}
-use Rattle.co_lex.specs.Table.{word_of, mark_of, header_len, front, front_len, marks, headers}
+use Rattle.co_lex.specs.Scan.{begins, is_in, run, comment_len, literal_len, good_len, text_of, number_of}
+use Rattle.co_lex.specs.Table.{mark_of, header_len, front, front_len, marks, headers}
 use Rattle.co_lex.specs.Lexer.{Answer, start_of, line_after, has_feed, space, token, name, number, number_piece, literal, mark, mark_piece, include, header, lexeme, solid, line_feed, block_comment, slash, piece, next}
 use Rattle.co_lex.specs.Spells.{AllIn, Stops, NoClose, Quotes, MayEnd, IsOpen, IsSolid, BeginsMark, IsToken, IsPiece}
 use Rattle.co_lex.specs.Spells as s
@@ -201,7 +199,7 @@ line_comment-read : (line : Line) (at : Span) (z : List ℕ) (p : Piece) → spa
 line_comment-read line at z p e =
     let n : suc (suc (run class.Line z)) ≡ run class.Line (47 ∷ 47 ∷ z) = omega arith in
     let h : IsRead line at (47 ∷ 47 ∷ z) (record { token = None; len = suc (suc (run class.Line z)); line = line }) =
-        (s.line_comment line at (take (run class.Line z) z) (drop (run class.Line z) z) (run-all class.Line z) (run-stops class.Line z), omega arith, omega (arith, prefix_len-le-length (is_in class.Line) z)) in
+    (s.line_comment line at (take (run class.Line z) z) (drop (run class.Line z) z) (run-all class.Line z) (run-stops class.Line z), omega arith, omega (arith, prefix_len-le-length (is_in class.Line) z)) in
     reads line at (47 ∷ 47 ∷ z) _ p e (subst (λ k. IsRead line at (47 ∷ 47 ∷ z) (record { token = None; len = k; line = line })) n h)
 
 block-whole : (line : Line) (at : Span) (z : List ℕ) (n : ℕ) → n < length z → (z ≡ take n z ++ 42 ∷ 47 ∷ drop (suc (suc n)) z) × NoClose (take n z ++ 42 ∷ []) → IsRead line at (47 ∷ 42 ∷ z) (record { token = None; len = n + 4; line = line_after line (has_feed (take (n + 4) (47 ∷ 42 ∷ z))) })
@@ -264,12 +262,12 @@ slash-at c line at b [] p true u same one two h e = absurd (is_false 0 47 refl (
 slash-at c line at b (d ∷ z) p true u same one two h e =
     let second : 47 ≡ d = sym (same ∙ is_true c 47 one) in
     subst (λ k. space line (run class.Line (k ∷ d ∷ z)) ≡ Ok p → IsRead line at (k ∷ d ∷ z) p) (slash_is b h)
-        (subst (λ k. space line (run class.Line (47 ∷ k ∷ z)) ≡ Ok p → IsRead line at (47 ∷ k ∷ z) p) second (line_comment-read line at z p)) e
+    (subst (λ k. space line (run class.Line (47 ∷ k ∷ z)) ≡ Ok p → IsRead line at (47 ∷ k ∷ z) p) second (line_comment-read line at z p)) e
 slash-at c line at b [] p false true same one two h e = absurd (is_false 0 42 refl (same ∙ is_true c 42 two))
 slash-at c line at b (d ∷ z) p false true same one two h e =
     let second : 42 ≡ d = sym (same ∙ is_true c 42 two) in
     subst (λ k. block_comment line at (k ∷ d ∷ z) ≡ Ok p → IsRead line at (k ∷ d ∷ z) p) (slash_is b h)
-        (subst (λ k. block_comment line at (47 ∷ k ∷ z) ≡ Ok p → IsRead line at (47 ∷ k ∷ z) p) second (block-read line at z p)) e
+    (subst (λ k. block_comment line at (47 ∷ k ∷ z) ≡ Ok p → IsRead line at (47 ∷ k ∷ z) p) second (block-read line at z p)) e
 slash-at c line at b z p false false same one two h e =
     let apart : (get_or z 0 0 ≢ 47) × (get_or z 0 0 ≢ 42) = ((λ q. is_false c 47 one (sym same ∙ q)), (λ q. is_false c 42 two (sym same ∙ q))) in
     let neither : IsSolid (b ∷ z) = ((λ q. let k : start.Slash ≡ start.Blank = sym h ∙ q in cc), (λ q. let k : start.Slash ≡ start.Feed = sym h ∙ q in cc), (λ q. apart)) in

@@ -2,6 +2,7 @@
 #![tactic(auto)]
 
 mod fault;
+mod laws;
 mod lexer;
 mod place;
 mod scan;
@@ -12,6 +13,7 @@ mod tests;
 mod token;
 
 pub use fault::LexFault;
+pub use laws::{fault_is_first, spelled_once, tokens_spell};
 pub use lexer::lex;
 pub use tables::{HEADERS, MARKS, WORDS};
 pub use token::{Mark, Token, TokenKind, Word};

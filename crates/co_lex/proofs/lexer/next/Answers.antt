@@ -1,5 +1,5 @@
-use Rattle.std.proofs.Common.{◌≡◌, rules, sym, subst}
-use Rattle.co_lex.specs.Lexer.{Gives, Answer, next}
+use Rattle.std.proofs.Common.{rules}
+use Rattle.co_lex.specs.Lexer.{next}
 use Rattle.co_lex.proofs.Pieces.{piece-solid}
 use Rattle.co_lex.proofs.lexer.next.Goals as goal
 

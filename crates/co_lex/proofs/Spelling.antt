@@ -1,5 +1,5 @@
 -- The laws of the lexer: its tokens are the spelling of the bytes, and its fault is that of the first place where there is none.
-use Rattle.std.proofs.Common.{◌≡◌, ◌≢◌, ◌↔◌, ℕ, zero, suc, ◌+◌, ◌-◌, ◌<◌, ◌≤◌, Bool, true, false, cond, eqb, ltb, List, [], ◌∷◌, ◌++◌, length, take, drop, get_or, nat_eq, Option, Some, None, IfSome, Ok, Err, refl, sym, ap, ◌∙◌, subst, length-append, take-append-drop, length-drop, arith, codes, ℤ}
+use Rattle.std.proofs.Common.{◌≡◌, ◌≢◌, ℕ, zero, suc, ◌+◌, ◌<◌, ◌≤◌, Bool, true, false, cond, eqb, ltb, List, [], ◌∷◌, ◌++◌, length, take, drop, get_or, nat_eq, Option, Some, None, IfSome, Ok, Err, refl, sym, ap, ◌∙◌, subst, length-append, take-append-drop, length-drop, arith, codes, ℤ}
 use Rattle.std.specs.List.{starts_with}
 use Rattle.std.proofs.lemmas.List.{take_at, drop_at}
 use Rattle.co_base.specs.declared.span.Span.{Span}
@@ -17,14 +17,14 @@ use Rattle.co_lex.specs.declared.token.Token.{Token}
 use Rattle.co_lex.specs.declared.token.TokenKind.{TokenKind}
 use Rattle.co_lex.specs.declared.token.TokenKind.TheVariants as kind
 use Rattle.co_lex.specs.Place.{position_after}
-use Rattle.co_lex.specs.Scan.{begins, run, comment_len, literal_len, good_len, text_of, number_of}
+use Rattle.co_lex.specs.Scan.{run, comment_len, literal_len, good_len, text_of, number_of}
 use Rattle.co_lex.specs.Table.{mark_of, header_len}
-use Rattle.co_lex.specs.Lexer.{Answer, Tokens, start_of, line_after, has_feed, space, token, name, number, number_piece, literal, mark, mark_piece, include, header, lexeme, solid, line_feed, block_comment, slash, piece, next, finish, with_front, token_at, lexed_from, lexed}
+use Rattle.co_lex.specs.Lexer.{Answer, Tokens, start_of, line_after, has_feed, space, token, number_piece, literal, mark_piece, lexeme, solid, line_feed, piece, next, finish, with_front, token_at, lexed_from, lexed}
 use Rattle.co_lex.specs.Spells.{MayEnd, IsToken, IsPiece, SpellsFrom, Spells, literal_fault, token_fault, solid_fault, fault_by, fault_of, IsStuck, FailsFrom, Fails, TokensSpell, SpelledOnce, FaultIsFirst}
 use Rattle.co_lex.specs.Spells as s
 use Rattle.co_lex.proofs.Marks.{mark_of-some}
 use Rattle.co_lex.proofs.Steps.{lexed_from-piece, lexed_from-fault}
-use Rattle.co_lex.proofs.Complete.{made, piece-front}
+use Rattle.co_lex.proofs.Complete.{piece-front}
 use Rattle.co_lex.proofs.Sound.{next-read}
 
 -- ---- each piece has a byte
@@ -232,9 +232,10 @@ abbrev AllFail : ℕ → Type 0
 AllFail n = (line : Line) (at : Span) (z : List ℕ) (f : LexFault) → length z ≤ n → lexed_from 0 line at z ≡ Err f → FailsFrom line at z f
 
 stuck-here : (line : Line) (at : Span) (z : List ℕ) (f : LexFault) → 0 < length z → next line at z ≡ Err f → IsStuck line at z
-stuck-here line at z f some e =
-    ((λ none h. let short : length z ≡ 0 = ap length none in omega arith),
-        (λ front rest token after whole h. both_answers (record { token = token; len = length front; line = after }) f (next line at z) (ap (next line at) whole ∙ piece-front line at front rest token after h) e))
+stuck-here line at z f some e = (
+  (λ none h. let short : length z ≡ 0 = ap length none in omega arith),
+  (λ front rest token after whole h. both_answers (record { token = token; len = length front; line = after }) f (next line at z) (ap (next line at) whole ∙ piece-front line at front rest token after h) e),
+)
 
 answer-fails : (n : ℕ) → AllFail n → (line : Line) (at : Span) (z : List ℕ) (f : LexFault) (a : Answer) → 0 < length z → length z ≤ suc n → next line at z ≡ a → lexed_from 0 line at z ≡ Err f → FailsFrom line at z f
 answer-fails n ih line at z f (Err g) some short e h =
