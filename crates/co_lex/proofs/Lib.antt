@@ -6,3 +6,4 @@ pub mod Runs
 pub mod Complete
 pub mod Sound
 pub mod Spelling
+pub mod Listed

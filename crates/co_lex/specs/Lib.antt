@@ -3,3 +3,4 @@ pub mod Table
 pub mod Scan
 pub mod Lexer
 pub mod Spells
+pub mod Texts
