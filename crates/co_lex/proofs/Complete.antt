@@ -12,9 +12,11 @@ use Rattle.co_lex.specs.declared.token.TokenKind.{TokenKind}
 use Rattle.co_lex.specs.declared.token.TokenKind.TheVariants as kind
 use Rattle.co_lex.specs.Scan.{begins, comment_len, number_of, kind_of}
 use Rattle.co_lex.specs.Table.{word_of, header_len}
-use Rattle.co_lex.specs.Lexer.{Answer, start_of, line_after, has_feed, token, name, number, literal, mark, mark_piece, lexeme, solid, block_comment, piece, next}
+use Rattle.co_lex.specs.Lexer.{Answer, header, start_of, line_after, has_feed, token, name, number, literal, mark, mark_piece, lexeme, solid, block_comment, piece, next}
 use Rattle.co_lex.specs.Spells.{AllIn, Stops, NoClose, Quotes, MayEnd, IsOpen, IsSolid, BeginsMark, IsToken, named, IsPiece, blank, feed, line_comment, include}
 use Rattle.co_lex.specs.Spells as s
+use Rattle.co_lex.specs.Texts.{word_text, mark_text, IsHeader, angled, quoted}
+use Rattle.co_lex.proofs.Listed.{word_of-text, word_text-start, word_text-all, word_of-none, mark_of-found, header_len-front}
 use Rattle.co_lex.proofs.Runs.{run-front, comment-front, literal-front, good-front, text-front}
 use Rattle.co_lex.proofs.Pieces.{piece-solid}
 
@@ -76,13 +78,15 @@ marks line at z free (inl e) = begun start.Other line at z free (λ q. cc) (λ q
 marks line at z free (inr h) = slash-mark line at z free h.0 h.1 h.2
 
 token-front : (line : Line) (at : Span) (front rest : List ℕ) (k : TokenKind) → IsOpen line → IsToken front rest k → next line at (front ++ rest) ≡ made (Some k) (length front) Begun
-token-front line at front rest k free (s.named f r first all stops) =
-    begun start.Letter line at (f ++ r) free (λ q. cc) (λ q. cc) (λ q. cc) (start-front f r start.Letter (λ q. cc) first) ∙ name-front f r all stops
+token-front line at front rest k free (s.word w r stops) =
+    begun start.Letter line at (word_text w ++ r) free (λ q. cc) (λ q. cc) (λ q. cc) (start-front (word_text w) r start.Letter (λ q. cc) (word_text-start w)) ∙ (name-front (word_text w) r (word_text-all w) stops ∙ ap (λ o. made (Some (kind_of (word_text w) o)) (length (word_text w)) Begun) (word_of-text w))
+token-front line at front rest k free (s.named f r first all stops other) =
+    begun start.Letter line at (f ++ r) free (λ q. cc) (λ q. cc) (λ q. cc) (start-front f r start.Letter (λ q. cc) first) ∙ (name-front f r all stops ∙ ap (λ o. made (Some (kind_of f o)) (length f) Begun) (word_of-none f other))
 token-front line at front rest k free (s.number f r num value first all stops e) =
     begun start.Digit line at (f ++ r) free (λ q. cc) (λ q. cc) (λ q. cc) (start-front f r start.Digit (λ q. cc) first) ∙ number-front at f r (num, value) all stops e
 token-front line at front rest k free (s.literal body text r q) =
     begun start.Quote line at (34 ∷ ((body ++ 34 ∷ []) ++ r)) free (λ q. cc) (λ q. cc) (λ q. cc) refl ∙ literal-quoted at body text r q
-token-front line at front rest k free (s.mark f r m h e) = marks line at (f ++ r) free h ∙ ap (mark_piece at) e
+token-front line at front rest k free (s.mark m r h longest) = marks line at (mark_text m ++ r) free h ∙ ap (mark_piece at) (mark_of-found m r longest)
 
 -- ---- white space and directives
 
@@ -101,20 +105,13 @@ block-front line at text w rest e none =
     let whole : length text + 4 ≡ suc (suc (length w)) = omega arith in
     rw (n, within, whole, take_at w rest (length w) refl) refl
 
-solid_at : (s : Start) (line : Line) (at : Span) (z : List ℕ) → s ≢ start.Blank → s ≢ start.Feed → (s ≡ start.Slash → (get_or z 1 0 ≢ 47) × (get_or z 1 0 ≢ 42)) → piece s line at z ≡ solid s line at z
-solid_at start.Blank line at z b f c = absurd (b refl)
-solid_at start.Feed line at z b f c = absurd (f refl)
-solid_at start.Slash line at z b f c = let h = c refl in rw (differs (get_or z 1 0) 47 h.0, differs (get_or z 1 0) 42 h.1) refl
-solid_at start.Letter line at z b f c = refl
-solid_at start.Digit line at z b f c = refl
-solid_at start.Quote line at z b f c = refl
-solid_at start.Hash line at z b f c = refl
-solid_at start.Other line at z b f c = refl
+header-found : (hash at : Span) (front rest : List ℕ) → IsHeader front → 0 < length front → header hash (front ++ rest) ≡ made None (length front) (Included hash)
+header-found hash at front rest h some = let e = header_len-front front rest h in rw (e, not_zero (length front) some) refl
 
-header-front : (hash at : Span) (front rest : List ℕ) → IsSolid (front ++ rest) → 0 < length front → header_len (front ++ rest) ≡ length front → next (Include hash) at (front ++ rest) ≡ made None (length front) (Included hash)
+header-front : (hash at : Span) (front rest : List ℕ) → IsHeader front → next (Include hash) at (front ++ rest) ≡ made None (length front) (Included hash)
 unfolding next
-header-front hash at front rest h some e =
-    solid_at (start_of (front ++ rest)) (Include hash) at (front ++ rest) h.0 h.1 h.2 ∙ rw (e, not_zero (length front) some) refl
+header-front hash at front rest (angled n h) = header-found hash at (60 ∷ (n ++ 62 ∷ [])) rest (angled n h) (omega arith)
+header-front hash at front rest (quoted n h) = header-found hash at (34 ∷ (n ++ 34 ∷ [])) rest (quoted n h) (omega arith)
 
 pub piece-front : (line : Line) (at : Span) (front rest : List ℕ) (token : Option TokenKind) (after : Line) → IsPiece line at front rest token after → next line at (front ++ rest) ≡ made token (length front) after
 unfolding next
@@ -124,5 +121,5 @@ piece-front line at front rest token after (s.line_comment l a text r all stops)
     ap (λ n. made None n l) (run-front class.Line (47 ∷ 47 ∷ text) r (refl, (refl, all)) stops)
 piece-front line at front rest token after (s.block_comment l a text r none) = block-front l a text (text ++ 42 ∷ 47 ∷ []) r refl none
 piece-front line at front rest token after (s.include a r) = refl
-piece-front line at front rest token after (s.header hash a f r h some e) = header-front hash a f r h some e
+piece-front line at front rest token after (s.header hash a f r h) = header-front hash a f r h
 piece-front line at front rest token after (s.token l a f r k free h) = token-front l a f r k free h

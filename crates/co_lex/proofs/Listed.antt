@@ -283,6 +283,13 @@ pub word_of-spelled : (name : List ℕ) (w : Word) → word_of name ≡ Some w �
 unfolding word_of
 word_of-spelled name w h = lookup-text words name w refl h
 
+none_found : (name : List ℕ) (o : Option Word) → word_of name ≡ o → ((w : Word) → name ≢ word_text w) → word_of name ≡ None
+none_found name None e other = e
+none_found name (Some w) e other = absurd (other w (word_of-spelled name w e))
+
+pub word_of-none : (name : List ℕ) → ((w : Word) → name ≢ word_text w) → word_of name ≡ None
+word_of-none name other = none_found name (word_of name) refl other
+
 -- ---- marks
 
 pub mark_of-text : (m : Mark) → mark_of (mark_text m) ≡ Some (m, length (mark_text m))

@@ -15,14 +15,17 @@ use Rattle.co_lex.specs.declared.scan.Class.{Class}
 use Rattle.co_lex.specs.declared.scan.Class.TheVariants as class
 use Rattle.co_lex.specs.declared.scan.Start.{Start}
 use Rattle.co_lex.specs.declared.scan.Start.TheVariants as start
+use Rattle.co_lex.specs.declared.token.Word.{Word}
 use Rattle.co_lex.specs.declared.token.Mark.{Mark}
 use Rattle.co_lex.specs.declared.token.TokenKind.TheVariants as kind
 use Rattle.co_lex.specs.Place.{position_after}
-use Rattle.co_lex.specs.Scan.{begins, is_in, run, comment_len, literal_len, good_len, text_of, number_of}
-use Rattle.co_lex.specs.Table.{mark_of, header_len, front, front_len, marks, headers}
+use Rattle.co_lex.specs.Scan.{kind_of, begins, is_in, run, comment_len, literal_len, good_len, text_of, number_of}
+use Rattle.co_lex.specs.Table.{word_of, mark_of, header_len, front, front_len, marks, headers}
 use Rattle.co_lex.specs.Lexer.{Answer, start_of, line_after, has_feed, space, token, name, number, number_piece, literal, mark, mark_piece, include, header, lexeme, solid, line_feed, block_comment, slash, piece, next}
 use Rattle.co_lex.specs.Spells.{AllIn, Stops, NoClose, Quotes, MayEnd, IsOpen, IsSolid, BeginsMark, IsToken, IsPiece}
 use Rattle.co_lex.specs.Spells as s
+use Rattle.co_lex.specs.Texts.{word_text, mark_text}
+use Rattle.co_lex.proofs.Listed.{word_of-text, word_of-spelled, mark_of-longest, header_len-listed}
 use Rattle.co_lex.proofs.Runs.{run-all, run-stops, comment-closed, literal-sound}
 use Rattle.co_lex.proofs.Marks.{mark_of-some}
 
@@ -54,11 +57,16 @@ start_of-take zero z h = absurd (omega arith)
 start_of-take (suc n) [] h = refl
 start_of-take (suc n) (b ∷ z) h = refl
 
+name_token : (front rest : List ℕ) (o : Option Word) → word_of front ≡ o → start_of front ≡ start.Letter → AllIn class.Name front → Stops class.Name rest → IsToken front rest (kind_of front o)
+name_token front rest (Some w) e first all stops = subst (λ f. IsToken f rest (kind.Word w)) (sym (word_of-spelled front w e)) (s.word w rest stops)
+name_token front rest None e first all stops =
+    s.named front rest first all stops (λ w q. let k : None ≡ Some w = sym e ∙ (ap word_of q ∙ word_of-text w) in cc)
+
 name-read : (line : Line) (at : Span) (b : ℕ) (z : List ℕ) (p : Piece) → IsOpen line → begins b ≡ start.Letter → name (b ∷ z) ≡ Ok p → IsRead line at (b ∷ z) p
 name-read line at b z p free first e =
     let n = run class.Name (b ∷ z) in
     let some : 1 ≤ n = run-some class.Name b z (letter_in b first) in
-    let t = s.named (take n (b ∷ z)) (drop n (b ∷ z)) (start_of-take n (b ∷ z) some ∙ first) (run-all class.Name (b ∷ z)) (run-stops class.Name (b ∷ z)) in
+    let t = name_token (take n (b ∷ z)) (drop n (b ∷ z)) (word_of (take n (b ∷ z))) refl (start_of-take n (b ∷ z) some ∙ first) (run-all class.Name (b ∷ z)) (run-stops class.Name (b ∷ z)) in
     reads line at (b ∷ z) _ p e (s.token line at (take n (b ∷ z)) (drop n (b ∷ z)) _ free t, some, prefix_len-le-length (is_in class.Name) (b ∷ z))
 
 number-at : (line : Line) (at : Span) (b : ℕ) (z : List ℕ) (p : Piece) (o : Option (Num × ℤ)) → IsOpen line → begins b ≡ start.Digit → number_of (take (run class.Number (b ∷ z)) (b ∷ z)) ≡ o → number_piece at o (run class.Number (b ∷ z)) ≡ Ok p → IsRead line at (b ∷ z) p
@@ -126,18 +134,6 @@ front_is z p h = (starts_is Decides-eqb z p (starts_with nat_eq z p) refl).0 h
 front_within : (z p : List ℕ) → starts_with nat_eq z p ≡ true → length p ≤ length z
 front_within z p h = omega (arith, ap length (front_is z p h), length-append p (drop (length p) z))
 
-mark-within_at : (z p : List ℕ) (k : Mark) (t : Bool) (more : Option (Mark × ℕ)) → starts_with nat_eq z p ≡ t → IfSome more (λ m. m.1 ≤ length z) → IfSome (cond t (Some (k, length p)) more) (λ m. m.1 ≤ length z)
-mark-within_at z p k true more e h = front_within z p e
-mark-within_at z p k false more e h = h
-
-mark-within : (ms : List (List ℕ × Mark)) (z : List ℕ) → IfSome (front ms z) (λ m. m.1 ≤ length z)
-mark-within [] z = tt
-mark-within (m ∷ ms) z = mark-within_at z m.0 m.1 (starts_with nat_eq z m.0) (front ms z) refl (mark-within ms z)
-
-pub mark_of-within : (z : List ℕ) → IfSome (mark_of z) (λ m. m.1 ≤ length z)
-unfolding mark_of
-mark_of-within z = mark-within marks z
-
 header-within_at : (z p : List ℕ) (t : Bool) (more : ℕ) → starts_with nat_eq z p ≡ t → more ≤ length z → cond t (length p) more ≤ length z
 header-within_at z p true more e h = front_within z p e
 header-within_at z p false more e h = h
@@ -157,31 +153,27 @@ mark-at : (line : Line) (at : Span) (z : List ℕ) (p : Piece) (o : Option (Mark
 mark-at line at z p None free h same e = absurd (cc)
 mark-at line at z p (Some m) free h same e =
     let n = m.1 in
+    let text = mark_text m.0 in
+    let rest = drop n z in
     let some = at_some (λ k. 1 ≤ k.1) (mark_of z) m same (mark_of-some z) in
-    let within = at_some (λ k. k.1 ≤ length z) (mark_of z) m same (mark_of-within z) in
-    let whole : z ≡ take n z ++ drop n z = sym (take-append-drop n z) in
-    let size : n ≡ length (take n z) = sym (length-take-le n z within) in
-    let found : mark_of (take n z ++ drop n z) ≡ Some (m.0, length (take n z)) = ap mark_of (sym whole) ∙ (same ∙ ap (λ k. Some (m.0, k)) size) in
-    let t = s.mark (take n z) (drop n z) m.0 (subst (λ w. BeginsMark w) whole h) found in
-    reads line at z _ p e (s.token line at (take n z) (drop n z) _ free t, some, within)
+    let a = mark_of-longest z m.0 n same in
+    let within : n ≤ length z = omega (arith, ap length a.1, length-append text rest, a.0) in
+    let first : text ≡ take n z = sym (ap (take n) a.1 ∙ take_at text rest n (sym a.0)) in
+    let t = s.mark m.0 rest (subst (λ w. BeginsMark w) a.1 h) (λ k more q. let l = a.2 k more (a.1 ∙ q) in omega (arith, a.0)) in
+    reads line at z _ p e (s.token line at (take n z) rest _ free (subst (λ w. IsToken w rest (kind.Mark m.0)) first t), some, within)
 
 mark-read : (line : Line) (at : Span) (z : List ℕ) (p : Piece) → IsOpen line → BeginsMark z → mark at z ≡ Ok p → IsRead line at z p
 mark-read line at z p free h e = mark-at line at z p (mark_of z) free h refl e
 
-header-at : (hash at : Span) (z : List ℕ) (p : Piece) (t : Bool) → IsSolid z → eqb (header_len z) 0 ≡ t → cond t (Err (BadDirective hash)) (space (Included hash) (header_len z)) ≡ Ok p → IsRead (Include hash) at z p
-header-at hash at z p true h same e = absurd (cc)
-header-at hash at z p false h same e =
+header-at : (hash at : Span) (z : List ℕ) (p : Piece) (t : Bool) → eqb (header_len z) 0 ≡ t → cond t (Err (BadDirective hash)) (space (Included hash) (header_len z)) ≡ Ok p → IsRead (Include hash) at z p
+header-at hash at z p true same e = absurd (cc)
+header-at hash at z p false same e =
     let n = header_len z in
     let apart = is_false n 0 same in
-    let some : 0 < n = omega arith in
-    let within = header_len-within z in
-    let whole : z ≡ take n z ++ drop n z = sym (take-append-drop n z) in
-    let size : n ≡ length (take n z) = sym (length-take-le n z within) in
-    let found : header_len (take n z ++ drop n z) ≡ length (take n z) = ap header_len (sym whole) ∙ size in
-    reads (Include hash) at z _ p e (s.header hash at (take n z) (drop n z) (subst (λ w. IsSolid w) whole h) (omega arith) found, some, within)
+    reads (Include hash) at z _ p e (s.header hash at (take n z) (drop n z) (header_len-listed z apart), omega arith, header_len-within z)
 
-header-read : (hash at : Span) (z : List ℕ) (p : Piece) → IsSolid z → header hash z ≡ Ok p → IsRead (Include hash) at z p
-header-read hash at z p h e = header-at hash at z p (eqb (header_len z) 0) h refl e
+header-read : (hash at : Span) (z : List ℕ) (p : Piece) → header hash z ≡ Ok p → IsRead (Include hash) at z p
+header-read hash at z p e = header-at hash at z p (eqb (header_len z) 0) refl e
 
 include-at : (at : Span) (z : List ℕ) (p : Piece) (t : Bool) → starts_with nat_eq z (codes "#include") ≡ t → cond t (space (Include at) 8) (Err (BadDirective at)) ≡ Ok p → IsRead Blank at z p
 include-at at z p false same e = absurd (cc)
@@ -250,7 +242,7 @@ lexeme-read start.Other line at b z p free h other e = mark-read line at (b ∷ 
 solid-read : (t : Start) (line : Line) (at : Span) (b : ℕ) (z : List ℕ) (p : Piece) → begins b ≡ t → IsSolid (b ∷ z) → solid t line at (b ∷ z) ≡ Ok p → IsRead line at (b ∷ z) p
 solid-read t Blank at b z p h c e = lexeme-read t Blank at b z p tt h c e
 solid-read t Begun at b z p h c e = lexeme-read t Begun at b z p tt h c e
-solid-read t (Include hash) at b z p h c e = header-read hash at (b ∷ z) p c e
+solid-read t (Include hash) at b z p h c e = header-read hash at (b ∷ z) p e
 solid-read t (Included hash) at b z p h c e = absurd (cc)
 
 -- what is neither white space nor begins with `/`

@@ -22,6 +22,8 @@ use Rattle.co_lex.specs.Table.{mark_of, header_len}
 use Rattle.co_lex.specs.Lexer.{Answer, Tokens, start_of, line_after, has_feed, space, token, number_piece, literal, mark_piece, lexeme, solid, line_feed, piece, next, finish, with_front, token_at, lexed_from, lexed}
 use Rattle.co_lex.specs.Spells.{MayEnd, IsToken, IsPiece, SpellsFrom, Spells, literal_fault, token_fault, solid_fault, fault_by, fault_of, IsStuck, FailsFrom, Fails, TokensSpell, SpelledOnce, FaultIsFirst}
 use Rattle.co_lex.specs.Spells as s
+use Rattle.co_lex.specs.Texts.{word_text, mark_text, IsHeader, angled, quoted}
+use Rattle.co_lex.proofs.Listed.{word_text-start, mark_of-text}
 use Rattle.co_lex.proofs.Marks.{mark_of-some}
 use Rattle.co_lex.proofs.Steps.{lexed_from-piece, lexed_from-fault}
 use Rattle.co_lex.proofs.Complete.{piece-front}
@@ -41,10 +43,15 @@ mark-some : (z : List ℕ) (m : Mark) (n : ℕ) → mark_of z ≡ Some (m, n) �
 mark-some z m n e = let h : 1 ≤ n = (subst (λ o. IfSome o (λ k. 1 ≤ k.1)) e (mark_of-some z)) in h
 
 token-some : (front rest : List ℕ) (k : TokenKind) → IsToken front rest k → 0 < length front
-token-some front rest k (s.named f r first all stops) = begun f start.Letter (λ q. cc) first
+token-some front rest k (s.word w r stops) = begun (word_text w) start.Letter (λ q. cc) (word_text-start w)
+token-some front rest k (s.named f r first all stops other) = begun f start.Letter (λ q. cc) first
 token-some front rest k (s.number f r num value first all stops e) = begun f start.Digit (λ q. cc) first
 token-some front rest k (s.literal body text r q) = omega arith
-token-some front rest k (s.mark f r m h e) = mark-some (f ++ r) m (length f) e
+token-some front rest k (s.mark m r h longest) = mark-some (mark_text m) m (length (mark_text m)) (mark_of-text m)
+
+header-some : (front : List ℕ) → IsHeader front → 0 < length front
+header-some front (angled n h) = omega arith
+header-some front (quoted n h) = omega arith
 
 piece-some : (line : Line) (at : Span) (front rest : List ℕ) (token : Option TokenKind) (after : Line) → IsPiece line at front rest token after → 0 < length front
 piece-some line at front rest token after (s.blank l a b r e) = omega arith
@@ -52,7 +59,7 @@ piece-some line at front rest token after (s.feed l a b r e h) = omega arith
 piece-some line at front rest token after (s.line_comment l a text r all stops) = omega arith
 piece-some line at front rest token after (s.block_comment l a text r none) = omega arith
 piece-some line at front rest token after (s.include a r) = omega arith
-piece-some line at front rest token after (s.header hash a f r h some e) = some
+piece-some line at front rest token after (s.header hash a f r h) = header-some f h
 piece-some line at front rest token after (s.token l a f r k free h) = token-some f r k h
 
 -- ---- tokens

@@ -13,11 +13,12 @@ use Rattle.co_lex.specs.declared.scan.Start.{Start}
 use Rattle.co_lex.specs.declared.scan.Start.TheVariants as start
 use Rattle.co_lex.specs.declared.token.Mark.{Mark}
 use Rattle.co_lex.specs.declared.token.Token.{Token}
+use Rattle.co_lex.specs.declared.token.Word.{Word}
 use Rattle.co_lex.specs.declared.token.TokenKind.{TokenKind}
 use Rattle.co_lex.specs.declared.token.TokenKind.TheVariants as kind
 use Rattle.co_lex.specs.Place.{position_after}
-use Rattle.co_lex.specs.Scan.{begins, is_in, number_of, literal_len, good_len, kind_of}
-use Rattle.co_lex.specs.Table.{word_of, mark_of, header_len}
+use Rattle.co_lex.specs.Scan.{begins, is_in, number_of, literal_len, good_len}
+use Rattle.co_lex.specs.Texts.{word_text, mark_text, IsHeader}
 use Rattle.co_lex.specs.Lexer.{line_after, has_feed, token_at, start_of, lexed}
 
 -- each byte is of the class
@@ -65,13 +66,14 @@ BeginsMark z = (start_of z ≡ start.Other) ⊎ ((start_of z ≡ start.Slash) ×
 
 -- The first bytes, before the rest, spell this token.
 pub data IsToken : List ℕ → List ℕ → TokenKind → Type 0 where
-  -- a letter or `_`, then letters, digits and `_`; a word where it is one
-  named : (front rest : List ℕ) → start_of front ≡ start.Letter → AllIn class.Name front → Stops class.Name rest → IsToken front rest (kind_of front (word_of front))
+  word : (w : Word) (rest : List ℕ) → Stops class.Name rest → IsToken (word_text w) rest (kind.Word w)
+  -- a letter or `_`, then letters, digits and `_`, and none of the words
+  named : (front rest : List ℕ) → start_of front ≡ start.Letter → AllIn class.Name front → Stops class.Name rest → ((w : Word) → front ≢ word_text w) → IsToken front rest (kind.Name front)
   -- a number, with no letter, digit, `_` or `'` right after it
   number : (front rest : List ℕ) (num : Num) (value : ℤ) → start_of front ≡ start.Digit → AllIn class.Number front → Stops class.Number rest → number_of front ≡ Some (num, value) → IsToken front rest (kind.Int num value)
   literal : (body text rest : List ℕ) → Quotes body text → IsToken (34 ∷ (body ++ 34 ∷ [])) rest (kind.Lit text)
-  -- the first mark, of those listed from the longest on, that the bytes begin with
-  mark : (front rest : List ℕ) (m : Mark) → BeginsMark (front ++ rest) → mark_of (front ++ rest) ≡ Some (m, length front) → IsToken front rest (kind.Mark m)
+  -- the longest mark that the bytes begin with
+  mark : (m : Mark) (rest : List ℕ) → BeginsMark (mark_text m ++ rest) → ((k : Mark) (more : List ℕ) → mark_text m ++ rest ≡ mark_text k ++ more → length (mark_text k) ≤ length (mark_text m)) → IsToken (mark_text m) rest (kind.Mark m)
 
 -- The first bytes, before the rest, are white space, a part of a directive, or a token; and what stands on the line before and after.
 pub data IsPiece : Line → Span → List ℕ → List ℕ → Option TokenKind → Line → Type 0 where
@@ -80,7 +82,7 @@ pub data IsPiece : Line → Span → List ℕ → List ℕ → Option TokenKind 
   line_comment : (line : Line) (at : Span) (text rest : List ℕ) → AllIn class.Line text → Stops class.Line rest → IsPiece line at (47 ∷ 47 ∷ text) rest None line
   block_comment : (line : Line) (at : Span) (text rest : List ℕ) → NoClose (text ++ 42 ∷ []) → IsPiece line at (47 ∷ 42 ∷ (text ++ 42 ∷ 47 ∷ [])) rest None (line_after line (has_feed (47 ∷ 42 ∷ (text ++ 42 ∷ 47 ∷ []))))
   include : (at : Span) (rest : List ℕ) → IsPiece Blank at (codes "#include") rest None (Include at)
-  header : (hash at : Span) (front rest : List ℕ) → IsSolid (front ++ rest) → 0 < length front → header_len (front ++ rest) ≡ length front → IsPiece (Include hash) at front rest None (Included hash)
+  header : (hash at : Span) (front rest : List ℕ) → IsHeader front → IsPiece (Include hash) at front rest None (Included hash)
   token : (line : Line) (at : Span) (front rest : List ℕ) (k : TokenKind) → IsOpen line → IsToken front rest k → IsPiece line at front rest (Some k) Begun
 
 pub data SpellsFrom : Line → Span → List ℕ → List Token → Type 0 where
