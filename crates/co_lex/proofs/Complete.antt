@@ -11,13 +11,14 @@ use Rattle.co_lex.specs.declared.scan.Start.TheVariants as start
 use Rattle.co_lex.specs.declared.token.TokenKind.{TokenKind}
 use Rattle.co_lex.specs.declared.token.TokenKind.TheVariants as kind
 use Rattle.co_lex.specs.Scan.{begins, comment_len, number_of, kind_of}
-use Rattle.co_lex.specs.Table.{word_of, header_len}
+use Rattle.co_lex.specs.Table.{word_of}
 use Rattle.co_lex.specs.Lexer.{Answer, header, start_of, line_after, has_feed, token, name, number, literal, mark, mark_piece, lexeme, solid, block_comment, piece, next}
 use Rattle.co_lex.specs.Spells.{AllIn, Stops, NoClose, Quotes, MayEnd, IsOpen, IsSolid, BeginsMark, IsToken, named, IsPiece, blank, feed, line_comment, include}
 use Rattle.co_lex.specs.Spells as s
 use Rattle.co_lex.specs.Texts.{word_text, mark_text, IsHeader, angled, quoted}
 use Rattle.co_lex.proofs.Listed.{word_of-text, word_text-start, word_text-all, word_of-none, mark_of-found, header_len-front}
 use Rattle.co_lex.proofs.Runs.{run-front, comment-front, literal-front, good-front, text-front}
+use Rattle.co_lex.proofs.Decimals.{number-read}
 use Rattle.co_lex.proofs.Pieces.{piece-solid}
 
 abbrev pub made : Option TokenKind → ℕ → Line → Answer
@@ -83,7 +84,7 @@ token-front line at front rest k free (s.word w r stops) =
 token-front line at front rest k free (s.named f r first all stops other) =
     begun start.Letter line at (f ++ r) free (λ q. cc) (λ q. cc) (λ q. cc) (start-front f r start.Letter (λ q. cc) first) ∙ (name-front f r all stops ∙ ap (λ o. made (Some (kind_of f o)) (length f) Begun) (word_of-none f other))
 token-front line at front rest k free (s.number f r num value first all stops e) =
-    begun start.Digit line at (f ++ r) free (λ q. cc) (λ q. cc) (λ q. cc) (start-front f r start.Digit (λ q. cc) first) ∙ number-front at f r (num, value) all stops e
+    begun start.Digit line at (f ++ r) free (λ q. cc) (λ q. cc) (λ q. cc) (start-front f r start.Digit (λ q. cc) first) ∙ number-front at f r (num, value) all stops (number-read f num value e)
 token-front line at front rest k free (s.literal body text r q) =
     begun start.Quote line at (34 ∷ ((body ++ 34 ∷ []) ++ r)) free (λ q. cc) (λ q. cc) (λ q. cc) refl ∙ literal-quoted at body text r q
 token-front line at front rest k free (s.mark m r h longest) = marks line at (mark_text m ++ r) free h ∙ ap (mark_piece at) (mark_of-found m r longest)

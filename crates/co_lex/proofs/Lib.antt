@@ -7,3 +7,4 @@ pub mod Complete
 pub mod Sound
 pub mod Spelling
 pub mod Listed
+pub mod Decimals

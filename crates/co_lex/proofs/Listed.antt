@@ -1,9 +1,9 @@
 -- The tables list each spelling once.
-use Rattle.std.proofs.Common.{◌≡◌, ◌≢◌, ℕ, zero, suc, ◌+◌, ◌<◌, ◌≤◌, Bool, true, false, ◌&&◌, ◌||◌, cond, leb, List, [], ◌∷◌, ◌++◌, length, take, drop, nat_eq, Option, Some, None, refl, sym, ap, ◌∙◌, subst, ◌⊎◌, inl, inr, ⊎_elim, length-append, arith, codes}
+use Rattle.std.proofs.Common.{◌≡◌, ◌≢◌, ℕ, ◌≤◌, Bool, true, false, ◌&&◌, ◌||◌, cond, leb, List, [], ◌∷◌, ◌++◌, length, take, drop, nat_eq, Option, Some, None, refl, sym, ap, ◌∙◌, subst, ◌⊎◌, inl, inr, ⊎_elim, arith, codes}
 use Rattle.std.specs.List.{list_all, starts_with}
 use Rattle.std.specs.Str.{bytes_eq}
 use Rattle.std.proofs.lemmas.Bool.Decides.{nat_tests, Decides-eqb}
-use Rattle.std.proofs.lemmas.List.{take_at, append_cancel_left}
+use Rattle.std.proofs.lemmas.List.{take_at}
 use Rattle.std.proofs.lemmas.Slice.Eq.{bytes_eq-Decides, starts_is}
 use Rattle.co_lex.specs.declared.scan.Class.TheVariants as class
 use Rattle.co_lex.specs.declared.scan.Start.TheVariants as start
@@ -435,13 +435,17 @@ front-at e ms most z m n true same spelled falls later h =
     let len : length e.0 ≡ n = pair.1 in
     let text : e.0 ≡ mark_text m = spelled ∙ ap mark_text k in
     let whole : z ≡ e.0 ++ drop (length e.0) z = front_is z e.0 same in
-    let f = both (leb (length e.0) most) (is_falling (length e.0) ms) falls in
-    (sym len ∙ ap length text, whole ∙ (ap (λ w. w ++ drop (length e.0) z) text ∙ ap (λ i. mark_text m ++ drop i z) len),
-        (λ other rest among is. ⊎_elim (λ q. let l = ap length (same_bytes e.0 other q) in omega arith) (λ q. let l = under ms (length e.0) other f.1 q in omega arith) (either_of (bytes_eq e.0 other) (is_among other ms) among)))
+    let f = both (leb (length e.0) most) (is_falling (length e.0) ms) falls in (
+      sym len ∙ ap length text,
+      whole ∙ (ap (λ w. w ++ drop (length e.0) z) text ∙ ap (λ i. mark_text m ++ drop i z) len),
+      (λ other rest among is. ⊎_elim (λ q. let l = ap length (same_bytes e.0 other q) in omega arith) (λ q. let l = under ms (length e.0) other f.1 q in omega arith) (either_of (bytes_eq e.0 other) (is_among other ms) among)),
+    )
 front-at e ms most z m n false same spelled falls later h =
-    let a = later h in
-    (a.0, a.1,
-        (λ other rest among is. ⊎_elim (λ q. let l : true ≡ false = sym (is_front z e.0 rest (is ∙ ap (λ w. w ++ rest) (sym (same_bytes e.0 other q)))) ∙ same in absurd (cc)) (λ q. a.2 other rest q is) (either_of (bytes_eq e.0 other) (is_among other ms) among)))
+    let a = later h in (
+      a.0,
+      a.1,
+      (λ other rest among is. ⊎_elim (λ q. let l : true ≡ false = sym (is_front z e.0 rest (is ∙ ap (λ w. w ++ rest) (sym (same_bytes e.0 other q)))) ∙ same in absurd (cc)) (λ q. a.2 other rest q is) (either_of (bytes_eq e.0 other) (is_among other ms) among)),
+    )
 
 front-answers : (ms : List (List ℕ × Mark)) (most : ℕ) (z : List ℕ) (m : Mark) (n : ℕ) → list_all (λ e. bytes_eq e.0 (mark_text e.1)) ms ≡ true → is_falling most ms ≡ true → front ms z ≡ Some (m, n) → Answers ms z m n
 unfolding is_falling

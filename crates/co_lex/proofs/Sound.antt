@@ -1,5 +1,5 @@
 -- The piece that the bytes begin with is what the relation calls one.
-use Rattle.std.proofs.Common.{◌≡◌, ◌≢◌, ℕ, zero, suc, ◌+◌, ◌<◌, ◌≤◌, Bool, true, false, cond, eqb, ltb, List, [], ◌∷◌, ◌++◌, length, take, drop, get_or, nat_eq, Option, Some, None, IfSome, Ok, Err, refl, sym, ap, ◌∙◌, subst, inl, inr, append_assoc, length-append, take-append-drop, arith, codes, ℤ}
+use Rattle.std.proofs.Common.{◌≡◌, ◌≢◌, ℕ, zero, suc, ◌+◌, ◌<◌, ◌≤◌, Bool, true, false, cond, eqb, ltb, List, [], ◌∷◌, ◌++◌, length, take, drop, get_or, nat_eq, Option, Some, None, IfSome, Ok, Err, refl, sym, ap, ◌∙◌, subst, inl, inr, append_assoc, length-append, arith, codes, ℤ}
 use Rattle.std.specs.List.{starts_with}
 use Rattle.std.proofs.lemmas.Bool.Decides.{nat_tests, Decides-eqb}
 use Rattle.std.proofs.lemmas.List.{take_at, drop_at, take_more, get_or_past, length-take-le}
@@ -20,13 +20,14 @@ use Rattle.co_lex.specs.declared.token.Mark.{Mark}
 use Rattle.co_lex.specs.declared.token.TokenKind.TheVariants as kind
 use Rattle.co_lex.specs.Place.{position_after}
 use Rattle.co_lex.specs.Scan.{kind_of, begins, is_in, run, comment_len, literal_len, good_len, text_of, number_of}
-use Rattle.co_lex.specs.Table.{word_of, mark_of, header_len, front, front_len, marks, headers}
+use Rattle.co_lex.specs.Table.{word_of, mark_of, header_len, front, front_len, headers}
 use Rattle.co_lex.specs.Lexer.{Answer, start_of, line_after, has_feed, space, token, name, number, number_piece, literal, mark, mark_piece, include, header, lexeme, solid, line_feed, block_comment, slash, piece, next}
 use Rattle.co_lex.specs.Spells.{AllIn, Stops, NoClose, Quotes, MayEnd, IsOpen, IsSolid, BeginsMark, IsToken, IsPiece}
 use Rattle.co_lex.specs.Spells as s
-use Rattle.co_lex.specs.Texts.{word_text, mark_text}
+use Rattle.co_lex.specs.Texts.{mark_text}
 use Rattle.co_lex.proofs.Listed.{word_of-text, word_of-spelled, mark_of-longest, header_len-listed}
 use Rattle.co_lex.proofs.Runs.{run-all, run-stops, comment-closed, literal-sound}
+use Rattle.co_lex.proofs.Decimals.{number-spelled}
 use Rattle.co_lex.proofs.Marks.{mark_of-some}
 
 abbrev pub IsRead : Line → Span → List ℕ → Piece → Type 0
@@ -74,7 +75,7 @@ number-at line at b z p None free first v e = absurd (cc)
 number-at line at b z p (Some v) free first same e =
     let n = run class.Number (b ∷ z) in
     let some : 1 ≤ n = run-some class.Number b z (digit_in b first) in
-    let t = s.number (take n (b ∷ z)) (drop n (b ∷ z)) v.0 v.1 (start_of-take n (b ∷ z) some ∙ first) (run-all class.Number (b ∷ z)) (run-stops class.Number (b ∷ z)) same in
+    let t = s.number (take n (b ∷ z)) (drop n (b ∷ z)) v.0 v.1 (start_of-take n (b ∷ z) some ∙ first) (run-all class.Number (b ∷ z)) (run-stops class.Number (b ∷ z)) (number-spelled (take n (b ∷ z)) v.0 v.1 same) in
     reads line at (b ∷ z) _ p e (s.token line at (take n (b ∷ z)) (drop n (b ∷ z)) _ free t, some, prefix_len-le-length (is_in class.Number) (b ∷ z))
 
 number-read : (line : Line) (at : Span) (b : ℕ) (z : List ℕ) (p : Piece) → IsOpen line → begins b ≡ start.Digit → number at (b ∷ z) ≡ Ok p → IsRead line at (b ∷ z) p

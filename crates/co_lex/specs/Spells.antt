@@ -1,8 +1,9 @@
 -- Which tokens a text is spelled with, as a relation over whole lists: the bytes are white space, directives and the spellings of
 -- tokens, each as long as possible, with `End` after the last byte.
-use Rattle.std.specs.Prelude.{◌≡◌, ◌≢◌, ℕ, ◌+◌, ◌<◌, ◌≤◌, true, false, if◌then◌else◌, ◌==◌, ◌↔◌, ◌⊎◌, List, [], ◌∷◌, ◌++◌, length, take, drop, slice_index, codes, Option, Some, None, Ok, Err, ℤ}
+use Rattle.std.specs.Prelude.{◌≡◌, ◌≢◌, ℕ, ◌+◌, ◌<◌, ◌≤◌, true, false, if◌then◌else◌, ◌==◌, ◌↔◌, ◌⊎◌, List, [], ◌∷◌, ◌++◌, length, take, drop, slice_index, codes, Option, Some, None, Ok, Err, ℤ, pos, ◌^◌}
 use Rattle.co_base.specs.declared.span.Span.{Span}
 use Rattle.co_base.specs.declared.kinds.Num.{Num}
+use Rattle.co_base.specs.declared.kinds.Num.TheVariants as num
 use Rattle.co_lex.specs.declared.fault.LexFault.{LexFault}
 use Rattle.co_lex.specs.declared.fault.LexFault.TheVariants.{BadByte, BadNumber, BadDirective, Unfinished}
 use Rattle.co_lex.specs.declared.lexer.Line.{Line}
@@ -17,7 +18,7 @@ use Rattle.co_lex.specs.declared.token.Word.{Word}
 use Rattle.co_lex.specs.declared.token.TokenKind.{TokenKind}
 use Rattle.co_lex.specs.declared.token.TokenKind.TheVariants as kind
 use Rattle.co_lex.specs.Place.{position_after}
-use Rattle.co_lex.specs.Scan.{begins, is_in, number_of, literal_len, good_len}
+use Rattle.co_lex.specs.Scan.{begins, is_in, value_after, literal_len, good_len}
 use Rattle.co_lex.specs.Texts.{word_text, mark_text, IsHeader}
 use Rattle.co_lex.specs.Lexer.{line_after, has_feed, token_at, start_of, lexed}
 
@@ -41,6 +42,19 @@ pub data Quotes : List ℕ → List ℕ → Type 0 where
   none : Quotes [] []
   plain : (b : ℕ) (body text : List ℕ) → 32 ≤ b → b ≤ 126 → b ≢ 34 → b ≢ 92 → Quotes body text → Quotes (b ∷ body) (b ∷ text)
   escape : (b : ℕ) (body text : List ℕ) → (b ≡ 34) ⊎ (b ≡ 92) → Quotes body text → Quotes (92 ∷ b ∷ body) (b ∷ text)
+
+-- the suffix of a number of this value, and the type that it gives
+pub data IsSuffix : List ℕ → ℕ → Num → Type 0 where
+  int : (value : ℕ) → value ≤ 2147483647 → IsSuffix [] value num.Int
+  long : (value : ℕ) → 2147483647 < value → IsSuffix [] value num.Long
+  upper_long : (value : ℕ) → IsSuffix (codes "L") value num.Long
+  lower_long : (value : ℕ) → IsSuffix (codes "l") value num.Long
+  upper_size : (value : ℕ) → IsSuffix (codes "UL") value num.Size
+  lower_size : (value : ℕ) → IsSuffix (codes "ul") value num.Size
+
+-- decimal digits with no leading zero, of a value of at most 2^63 - 1, and a suffix
+pub data IsNumber : List ℕ → Num → ℤ → Type 0 where
+  decimal : (digits suffix : List ℕ) (num : Num) → AllIn class.Digit digits → (slice_index digits 0 ≡ 48 → length digits ≤ 1) → value_after 0 digits < 2 ^ 63 → IsSuffix suffix (value_after 0 digits) num → IsNumber (digits ++ suffix) num (pos (value_after 0 digits))
 
 -- a `#include` has its header
 abbrev pub MayEnd : Line → Type 0
@@ -70,7 +84,7 @@ pub data IsToken : List ℕ → List ℕ → TokenKind → Type 0 where
   -- a letter or `_`, then letters, digits and `_`, and none of the words
   named : (front rest : List ℕ) → start_of front ≡ start.Letter → AllIn class.Name front → Stops class.Name rest → ((w : Word) → front ≢ word_text w) → IsToken front rest (kind.Name front)
   -- a number, with no letter, digit, `_` or `'` right after it
-  number : (front rest : List ℕ) (num : Num) (value : ℤ) → start_of front ≡ start.Digit → AllIn class.Number front → Stops class.Number rest → number_of front ≡ Some (num, value) → IsToken front rest (kind.Int num value)
+  number : (front rest : List ℕ) (num : Num) (value : ℤ) → start_of front ≡ start.Digit → AllIn class.Number front → Stops class.Number rest → IsNumber front num value → IsToken front rest (kind.Int num value)
   literal : (body text rest : List ℕ) → Quotes body text → IsToken (34 ∷ (body ++ 34 ∷ [])) rest (kind.Lit text)
   -- the longest mark that the bytes begin with
   mark : (m : Mark) (rest : List ℕ) → BeginsMark (mark_text m ++ rest) → ((k : Mark) (more : List ℕ) → mark_text m ++ rest ≡ mark_text k ++ more → length (mark_text k) ≤ length (mark_text m)) → IsToken (mark_text m) rest (kind.Mark m)
