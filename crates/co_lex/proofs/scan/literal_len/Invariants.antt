@@ -1,0 +1,9 @@
+use Rattle.std.proofs.Common.{◌≡◌, ◌+◌, ◌-◌, ◌≤◌, length, drop, false}
+use Rattle.co_lex.specs.Scan.{literal_len}
+use Rattle.co_lex.proofs.scan.literal_len.Given as goal
+
+abbrev pub invariant-loop-n : goal.invariant-loop-n
+invariant-loop-n l = (l.n + literal_len l.is_escaped (drop l.n l.z) ≡ literal_len false l.z) × (l.n ≤ length l.z)
+
+abbrev pub decreases-loop-n : goal.decreases-loop-n
+decreases-loop-n l = length l.z - l.n
