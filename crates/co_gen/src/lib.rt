@@ -1,0 +1,6 @@
+//! The code of a program: what the machine runs for each statement.
+#![tactic(auto)]
+
+mod emit;
+
+pub use emit::generate;
