@@ -3,6 +3,7 @@
 
 mod exec;
 mod instr;
+mod laws;
 mod local;
 mod prints;
 mod turn;
@@ -10,4 +11,8 @@ mod words;
 
 pub use exec::{exec_one, run};
 pub use instr::{Image, Instr, Placed, Stop};
+pub use laws::{limits_hold, stop_is_final};
 pub use local::Local;
+
+#[cfg(test)]
+mod tests;

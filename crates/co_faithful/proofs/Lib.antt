@@ -4,3 +4,4 @@ pub mod Holds
 pub mod Live
 pub mod Turns
 pub mod Theorem
+mod Sample

@@ -12,6 +12,8 @@ use Rattle.co_exec.specs.declared.instr.Stop.TheVariants.{Running, Main, Undefin
 use Rattle.co_exec.specs.declared.local.Local.{Local}
 use Rattle.co_exec.specs.declared.turn.Due.TheVariants.{Nothing, OutOfBudget}
 use Rattle.co_exec.specs.Opening.{opening, stack_words}
+use Rattle.co_exec.specs.Laws.{KeepsLimits}
+use Rattle.co_exec.proofs.Limits.{stay, limits}
 use Rattle.co_exec.specs.Machine.{checked, due_running, due_after, taken, turn, turns}
 use Rattle.co_meaning.specs.Meaning.{Frame, Rest, Config, On, Next, step, steps, start, doing_of, printed}
 use Rattle.co_gen.specs.Code.{list_code, main_end, code_of}
@@ -22,14 +24,6 @@ use Rattle.co_faithful.proofs.Holds.{Holds, stack_room}
 use Rattle.co_faithful.proofs.Live.{Leads, Live, Sim, live, over, Shows, shows, Turned}
 use Rattle.co_faithful.proofs.Live as state
 use Rattle.co_faithful.proofs.Turns.{turn_live}
-
--- a run that has stopped stays as it is
-stays : (s : Stop) (code : List Placed) (k : Local) → k.stop ≡ s → s ≢ Running → turn code k ≡ k
-stays Running code k e stopped = absurd (stopped refl)
-stays (Main value) code k e stopped = ap (λ s. taken (due_after s (due_running code k)) k) e
-stays (Undefined kind span) code k e stopped = ap (λ s. taken (due_after s (due_running code k)) k) e
-stays Budget code k e stopped = ap (λ s. taken (due_after s (due_running code k)) k) e
-stays (Limit limit) code k e stopped = ap (λ s. taken (due_after s (due_running code k)) k) e
 
 -- the budget ends a run before its next instruction
 cut : (code : List Placed) (k : Local) → k.stop ≡ Running → nat_lt k.made k.budget ≡ false → turn code k ≡ record k { stop = Budget }
@@ -49,7 +43,7 @@ turned code count k since c false e l =
 each_turn : (code : List Placed) (count : ℕ) (k : Local) (since : ℕ) (c : Config) → Sim code count k since c → Turned code count k since (turn code k) c
 each_turn code count k since c (live l) = turned code count k since c (nat_lt k.made k.budget) refl l
 each_turn code count k since c (over le stopped agree) =
-    subst (λ k1. Turned code count k since k1 c) (sym (stays k.stop code k refl stopped))
+    subst (λ k1. Turned code count k since k1 c) (sym (stay code k stopped))
     (record { more = 0; since = since; sim = over le stopped agree; bound = omega arith })
 
 -- where the program is after n turns of the machine
@@ -135,4 +129,5 @@ ran program budget code first last n formed same opened reached stopped =
       steps_made = f.0;
       agree = subst (λ l. Agree l (steps f.0 (start program))) (sym at) f.1;
       few = subst (λ (l : Local). l.made ≤ 5 * (f.0 + 1)) (sym at) f.2;
+      limits = subst (KeepsLimits budget) (sym at) (limits (code_of program) (length program.names) budget n);
     }

@@ -9,6 +9,7 @@ use Rattle.co_exec.specs.declared.instr.Stop.TheVariants.{Running, Main, Undefin
 use Rattle.co_exec.specs.declared.local.Local.{Local}
 use Rattle.co_exec.specs.Opening.{opening}
 use Rattle.co_exec.specs.Machine.{turns}
+use Rattle.co_exec.specs.Laws.{KeepsLimits}
 use Rattle.co_meaning.specs.Meaning.{Doing, Evaluate, Extend, Give, Next, Ended, Failed, Config, steps, start, doing_of, printed}
 
 -- the program has more to do
@@ -54,3 +55,4 @@ pub record Ran (program : Program) (budget : ℕ) (local : Local) : Type 0 where
   pub steps_made : ℕ
   pub agree : Agree local (steps steps_made (start program))
   pub few : local.made ≤ 5 * (steps_made + 1)
+  pub limits : KeepsLimits budget local

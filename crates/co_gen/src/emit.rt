@@ -116,8 +116,8 @@ fn emit_atom(code: &mut Vec<Placed>, atom: Atom, span: Span) -> Result<(), NoMem
             put(code, Instr::Const(value as i64), span)?;
             Ok(())
         }
-        Atom::Name(x) => {
-            put(code, Instr::Slot(x), span)?;
+        Atom::Name(y) => {
+            put(code, Instr::Slot(y), span)?;
             put(code, Instr::Load, span)?;
             Ok(())
         }
