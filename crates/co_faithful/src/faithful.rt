@@ -6,5 +6,4 @@ ghost use Rattle.co_faithful.specs.Faithful.{IsFaithful};
 /// The code of each program that keeps the rules of its form does what the program does.
 pub fn code_is_faithful()
     ensures { (program : Program) → IsFormed program → IsFaithful program (code_of program) }
-{
-}
+{}

@@ -6,3 +6,6 @@ mod program;
 
 pub use faithful::code_is_faithful;
 pub use program::run_program;
+
+#[cfg(test)]
+mod tests;

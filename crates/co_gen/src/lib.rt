@@ -4,3 +4,6 @@
 mod emit;
 
 pub use emit::generate;
+
+#[cfg(test)]
+mod tests;
