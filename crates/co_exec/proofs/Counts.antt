@@ -1,5 +1,5 @@
 -- A run takes a turn only while its budget lasts.
-use Rattle.std.proofs.Common.{◌≡◌, ℕ, zero, suc, ◌+◌, ◌-◌, ◌<◌, ◌≤◌, List, [], ◌∷◌, Option, Some, None, Bool, true, false, refl, sym, ap, ◌∙◌, subst, arith}
+use Rattle.std.proofs.Common.{◌≡◌, ℕ, zero, suc, ◌+◌, ◌-◌, ◌<◌, ◌≤◌, List, Option, Some, None, Bool, true, false, refl, sym, subst, arith}
 use Rattle.std.specs.Prelude.{nat_lt, if◌then◌else◌, slice_get}
 use Rattle.std.proofs.lemmas.Bool.{ltb-true}
 use mir.Val.{to_z}
@@ -12,10 +12,10 @@ use Rattle.co_exec.specs.declared.instr.Stop.{Stop}
 use Rattle.co_exec.specs.declared.instr.Stop.TheVariants.{Running, Main, Undefined, Budget, Limit}
 use Rattle.co_exec.specs.declared.local.Local.{Local}
 use Rattle.co_exec.specs.declared.turn.Due.{Due}
-use Rattle.co_exec.specs.declared.turn.Due.TheVariants.{Nothing, OutOfBudget, Meets, Does}
+use Rattle.co_exec.specs.declared.turn.Due.TheVariants.{OutOfBudget, Meets, Does}
 use Rattle.co_exec.specs.declared.turn.Computed.{Computed}
 use Rattle.co_exec.specs.declared.turn.Computed.TheVariants.{Value, Outside, Absent}
-use Rattle.co_exec.specs.Machine.{computed, lawful, met, checked, due_running, due_after, due, settle, branch, act, taken, turn}
+use Rattle.co_exec.specs.Machine.{computed, lawful, met, checked, due_running, due_after, settle, branch, act, taken, turn}
 
 -- how many turns are left at most
 abbrev pub weigh : Stop → ℕ → ℕ

@@ -1,6 +1,6 @@
 -- The laws of runs.
-use Rattle.std.proofs.Common.{◌≡◌, ◌≢◌, ℕ, zero, suc, ◌+◌, ◌<◌, ◌≤◌, List, [], ◌∷◌, ◌++◌, length, Option, Some, None, Bool, true, false, refl, sym, ap, ◌∙◌, subst, arith, length-append}
-use Rattle.std.specs.Prelude.{nat_lt, if◌then◌else◌, slice_get, ℤ}
+use Rattle.std.proofs.Common.{◌≡◌, ◌≢◌, ℕ, zero, suc, ◌<◌, ◌≤◌, List, [], ◌∷◌, length, Option, Some, None, Bool, true, false, refl, sym, ap, ◌∙◌, subst, arith, length-append}
+use Rattle.std.specs.Prelude.{nat_lt, if◌then◌else◌, slice_get}
 use Rattle.std.proofs.lemmas.Bool.{ltb-true}
 use Rattle.std.proofs.lemmas.Bool.Decides.{nat_tests}
 use mir.Val.{to_z}
@@ -13,12 +13,11 @@ use Rattle.co_exec.specs.declared.instr.Placed.{Placed}
 use Rattle.co_exec.specs.declared.instr.Stop.{Stop}
 use Rattle.co_exec.specs.declared.instr.Stop.TheVariants.{Running, Main, Undefined, Budget, Limit}
 use Rattle.co_exec.specs.declared.local.Local.{Local}
-use Rattle.co_exec.specs.declared.turn.Due.{Due}
-use Rattle.co_exec.specs.declared.turn.Due.TheVariants.{Nothing, OutOfBudget, Meets, Does}
+use Rattle.co_exec.specs.declared.turn.Due.TheVariants.{OutOfBudget, Meets, Does}
 use Rattle.co_exec.specs.declared.turn.Computed.{Computed}
 use Rattle.co_exec.specs.declared.turn.Computed.TheVariants.{Value, Outside, Absent}
 use Rattle.co_exec.specs.Opening.{opening}
-use Rattle.co_exec.specs.Machine.{computed, lawful, met, checked, due_running, due_after, due, settle, branch, act, taken, turn, turns}
+use Rattle.co_exec.specs.Machine.{computed, lawful, met, checked, due_running, due_after, settle, branch, act, taken, turn, turns}
 use Rattle.co_exec.specs.Laws.{StopIsFinal, KeepsLimits, LimitsHold}
 
 stays : (s : Stop) (code : List Placed) (l : Local) → l.stop ≡ s → s ≢ Running → turn code l ≡ l

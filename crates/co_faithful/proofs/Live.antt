@@ -1,13 +1,13 @@
 -- Where a run of the code stands in the program: one case for each place at which an instruction is due.
-use Rattle.std.proofs.Common.{◌≡◌, ◌≢◌, ℕ, suc, ◌+◌, ◌*◌, ◌<◌, ◌≤◌, List, [], ◌∷◌, ◌++◌, length, Some, refl, sym, ap, ◌∙◌, subst, arith}
-use Rattle.std.specs.Prelude.{slice_get, ℤ, pos}
+use Rattle.std.proofs.Common.{◌≡◌, ◌≢◌, ℕ, suc, ◌+◌, ◌*◌, ◌<◌, ◌≤◌, List, [], ◌∷◌, ◌++◌, length, Some, arith}
+use Rattle.std.specs.Prelude.{slice_get, ℤ}
 use mir.Val.{to_z}
 use mir.Syntax.{w64}
 use Rattle.co_base.specs.declared.span.Span.{Span}
 use Rattle.co_base.specs.declared.kinds.Num.TheVariants as num
 use Rattle.co_tree.specs.declared.tree.Stmt.{Stmt}
 use Rattle.co_tree.specs.declared.tree.Sum.{Sum}
-use Rattle.co_tree.specs.declared.tree.Sum.TheVariants.{Int, Name}
+use Rattle.co_tree.specs.declared.tree.Sum.TheVariants.{Name}
 use Rattle.co_tree.specs.declared.tree.Term.{Term}
 use Rattle.co_tree.specs.declared.tree.SumOp.{SumOp}
 use Rattle.co_tree.specs.declared.tree.Atom.{Atom}
@@ -15,12 +15,11 @@ use Rattle.co_tree.specs.declared.tree.Atom.TheVariants as operand
 use Rattle.co_exec.specs.declared.instr.Instr.TheVariants.{Const, Arith, Slot, Load, Store, Push, Pop, Jump, JumpZ, MainRet}
 use Rattle.co_exec.specs.declared.instr.Instr.TheVariants as instr
 use Rattle.co_exec.specs.declared.instr.Placed.{Placed}
-use Rattle.co_exec.specs.declared.instr.Stop.{Stop}
-use Rattle.co_exec.specs.declared.instr.Stop.TheVariants.{Running, Main, Undefined, Budget, Limit}
+use Rattle.co_exec.specs.declared.instr.Stop.TheVariants.{Running}
 use Rattle.co_exec.specs.declared.local.Local.{Local}
-use Rattle.co_meaning.specs.Meaning.{Purpose, Into, Show, Test, Doing, Evaluate, Extend, Give, Next, Ended, Failed, Frame, Rest, Again, Config, On, atom_value, step, steps, doing_of, printed}
+use Rattle.co_meaning.specs.Meaning.{Purpose, Into, Show, Test, Evaluate, Extend, Give, Next, Frame, Rest, Again, Config, On, atom_value, step, steps, doing_of, printed}
 use Rattle.co_gen.specs.Code.{placed, op_of, span_of, atom_code, terms_code, sum_code, assign_code, while_code, list_code, main_end}
-use Rattle.co_faithful.specs.Faithful.{IsGoing, Ends, Agree}
+use Rattle.co_faithful.specs.Faithful.{IsGoing, Agree}
 use Rattle.co_faithful.proofs.Places.{HasAt}
 use Rattle.co_faithful.proofs.Within.{IsAtom, AreTerms, IsSum, AreStmts}
 use Rattle.co_faithful.proofs.Holds.{Item, value, address, Holds}

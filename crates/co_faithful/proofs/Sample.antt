@@ -1,6 +1,6 @@
 -- A program of a loop, as the program's steps and as the turns of its code do it.
 use Rattle.std.proofs.Common.{◌≡◌, ℕ, List, [], ◌∷◌, ◌++◌, refl}
-use Rattle.std.specs.Prelude.{ℤ, pos}
+use Rattle.std.specs.Prelude.{pos}
 use Rattle.co_base.specs.declared.span.Span.{Span}
 use Rattle.co_tree.specs.declared.tree.Stmt.{Stmt, end_of-Stmt, more_of-Stmt}
 use Rattle.co_tree.specs.declared.tree.Stmt.TheVariants.{Declare, Assign, While', Print}
@@ -9,13 +9,11 @@ use Rattle.co_tree.specs.declared.tree.Sum.TheVariants.{Int, Name}
 use Rattle.co_tree.specs.declared.tree.SumOp.{SumOp}
 use Rattle.co_tree.specs.declared.tree.SumOp.TheVariants.{Add, Sub}
 use Rattle.co_tree.specs.declared.tree.Atom.TheVariants as operand
-use Rattle.co_exec.specs.declared.instr.Placed.{Placed}
-use Rattle.co_exec.specs.declared.instr.Stop.{Stop}
-use Rattle.co_exec.specs.declared.instr.Stop.TheVariants.{Running, Main, Undefined, Budget}
+use Rattle.co_exec.specs.declared.instr.Stop.TheVariants.{Main, Budget}
 use Rattle.co_exec.specs.declared.local.Local.{Local}
 use Rattle.co_exec.specs.Opening.{opening}
 use Rattle.co_exec.specs.Machine.{turns}
-use Rattle.co_meaning.specs.Meaning.{Doing, Next, Ended, Rest, Config, On, steps, doing_of, printed}
+use Rattle.co_meaning.specs.Meaning.{Next, Ended, Rest, Config, On, steps, doing_of, printed}
 use Rattle.co_gen.specs.Code.{list_code, main_end}
 
 abbrev at : ℕ → Span

@@ -1,6 +1,6 @@
 -- The code of a program follows it, from the opening on, at every number of turns.
-use Rattle.std.proofs.Common.{◌≡◌, ◌≢◌, ℕ, zero, suc, ◌+◌, ◌*◌, ◌<◌, ◌≤◌, List, [], ◌∷◌, ◌++◌, length, get_or, replicate, Bool, true, false, refl, sym, ap, ◌∙◌, subst, arith}
-use Rattle.std.specs.Prelude.{nat_lt, if◌then◌else◌, slice_get, ℤ, pos}
+use Rattle.std.proofs.Common.{◌≡◌, ◌≢◌, ℕ, zero, suc, ◌+◌, ◌*◌, ◌<◌, ◌≤◌, List, [], ◌∷◌, length, replicate, Bool, true, false, refl, sym, ap, ◌∙◌, subst, arith}
+use Rattle.std.specs.Prelude.{nat_lt, if◌then◌else◌, slice_get, pos}
 use Rattle.std.proofs.lemmas.List.{length-replicate, get_or-replicate}
 use mir.Val.{to_z}
 use mir.Syntax.{w64}
@@ -8,18 +8,18 @@ use Rattle.co_tree.specs.declared.tree.Program.{Program}
 use Rattle.co_tree.specs.Form.{IsFormed}
 use Rattle.co_exec.specs.declared.instr.Placed.{Placed}
 use Rattle.co_exec.specs.declared.instr.Stop.{Stop}
-use Rattle.co_exec.specs.declared.instr.Stop.TheVariants.{Running, Main, Undefined, Budget, Limit}
+use Rattle.co_exec.specs.declared.instr.Stop.TheVariants.{Running, Budget}
 use Rattle.co_exec.specs.declared.local.Local.{Local}
-use Rattle.co_exec.specs.declared.turn.Due.TheVariants.{Nothing, OutOfBudget}
+use Rattle.co_exec.specs.declared.turn.Due.TheVariants.{OutOfBudget}
 use Rattle.co_exec.specs.Opening.{opening, stack_words}
 use Rattle.co_exec.specs.Laws.{KeepsLimits}
 use Rattle.co_exec.proofs.Limits.{stay, limits}
 use Rattle.co_exec.specs.Machine.{checked, due_running, due_after, taken, turn, turns}
-use Rattle.co_meaning.specs.Meaning.{Frame, Rest, Config, On, Next, step, steps, start, doing_of, printed}
+use Rattle.co_meaning.specs.Meaning.{Rest, Config, step, steps, start, doing_of}
 use Rattle.co_gen.specs.Code.{list_code, main_end, code_of}
 use Rattle.co_faithful.specs.Faithful.{IsGoing, Ends, Agree, after_turns, IsFaithful, Ran}
 use Rattle.co_faithful.proofs.Places.{HasAt, has_front, has_back, has_all}
-use Rattle.co_faithful.proofs.Within.{AreStmts, within}
+use Rattle.co_faithful.proofs.Within.{within}
 use Rattle.co_faithful.proofs.Holds.{Holds, stack_room}
 use Rattle.co_faithful.proofs.Live.{Leads, Live, Sim, live, over, Shows, shows, Turned}
 use Rattle.co_faithful.proofs.Live as state

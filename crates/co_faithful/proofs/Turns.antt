@@ -1,16 +1,13 @@
 -- One turn from each place of the code.
-use Rattle.std.proofs.Common.{◌≡◌, ◌≢◌, ℕ, zero, suc, ◌+◌, ◌-◌, ◌*◌, ◌^◌, ◌<◌, ◌≤◌, List, [], ◌∷◌, ◌++◌, length, get_or, set, Bool, true, false, Some, refl, sym, ap, ◌∙◌, subst, arith, length-append}
+use Rattle.std.proofs.Common.{◌≡◌, ℕ, zero, suc, ◌+◌, ◌-◌, ◌^◌, ◌<◌, ◌≤◌, List, [], ◌∷◌, ◌++◌, length, get_or, set, Bool, true, false, Some, refl, sym, ap, ◌∙◌, subst, arith, length-append}
 use Rattle.std.specs.Prelude.{nat_lt, if◌then◌else◌, ◌&&◌, slice_get, ℤ, pos, negsuc, ◌+ℤ◌, ◌-ℤ◌}
 use Rattle.std.proofs.lemmas.Bool.{lt-ltb, ltb-true}
 use Rattle.std.proofs.lemmas.Int.{to_z_pos, to_z-of_z}
-use mathlib.Core.Former.{Count}
 use mir.Val.{to_z, of_z, sel, SFits}
 use mir.Syntax.{w64}
 use Rattle.co_base.specs.declared.span.Span.{Span}
 use Rattle.co_base.specs.declared.kinds.Num.TheVariants as num
-use Rattle.co_base.specs.declared.kinds.Op.TheVariants as op
-use Rattle.co_base.specs.declared.kinds.Undef.TheVariants.{U5}
-use Rattle.co_tree.specs.declared.tree.Stmt.{Stmt, Row_of-Stmt, items-the_row-Stmt}
+use Rattle.co_tree.specs.declared.tree.Stmt.{Stmt, items-the_row-Stmt}
 use Rattle.co_tree.specs.declared.tree.Stmt.TheVariants.{Declare, Assign, While', Print}
 use Rattle.co_tree.specs.declared.tree.Sum.{Sum}
 use Rattle.co_tree.specs.declared.tree.Sum.TheVariants.{Int, Name}
@@ -22,21 +19,18 @@ use Rattle.co_tree.specs.declared.tree.Atom.TheVariants as operand
 use Rattle.co_exec.specs.declared.instr.Instr.TheVariants.{Const, Arith, Slot, Load, Store, Push, Pop, Jump, JumpZ, MainRet}
 use Rattle.co_exec.specs.declared.instr.Instr.TheVariants as instr
 use Rattle.co_exec.specs.declared.instr.Placed.{Placed}
-use Rattle.co_exec.specs.declared.instr.Stop.{Stop}
-use Rattle.co_exec.specs.declared.instr.Stop.TheVariants.{Running, Main, Undefined, Budget, Limit}
+use Rattle.co_exec.specs.declared.instr.Stop.TheVariants.{Running}
 use Rattle.co_exec.specs.declared.local.Local.{Local}
-use Rattle.co_exec.specs.declared.turn.Due.TheVariants.{Nothing, OutOfBudget, Meets, Does}
+use Rattle.co_exec.specs.declared.turn.Due.TheVariants.{OutOfBudget, Meets, Does}
 use Rattle.co_exec.specs.declared.turn.Computed.{Computed}
 use Rattle.co_exec.specs.declared.turn.Computed.TheVariants.{Value, Outside, Absent}
-use Rattle.co_exec.specs.Opening.{stack_words}
 use Rattle.co_exec.specs.Machine as machine
 use Rattle.co_exec.specs.Machine.{lawful, met, checked, due_running, due_after, computed, settle, branch, taken, turn}
-use Rattle.co_meaning.specs.Meaning.{Purpose, Into, Show, Test, Doing, Evaluate, Extend, Give, Next, Ended, Failed, Frame, Rest, Again, Config, On, is_long, variable, atom_value, exact, extended, tested, begin, step, steps, doing_of, printed}
-use Rattle.co_gen.specs.Code.{placed, op_of, span_of, atom_code, term_code, terms_code, sum_code, assign_code, while_code, stmt_code, list_code, row_code, main_end}
+use Rattle.co_meaning.specs.Meaning.{Purpose, Into, Show, Test, Evaluate, Extend, Give, Next, Failed, Frame, Rest, Again, Config, On, is_long, variable, atom_value, exact, extended, tested, begin}
+use Rattle.co_gen.specs.Code.{placed, op_of, span_of, atom_code, terms_code, sum_code, assign_code, while_code, stmt_code, list_code, row_code, main_end}
 use Rattle.co_gen.proofs.Lists.{rows_code}
-use Rattle.co_faithful.specs.Faithful.{IsGoing, Ends, Agree}
 use Rattle.co_faithful.proofs.Places.{HasAt, has_front, has_back}
-use Rattle.co_faithful.proofs.Within.{IsAtom, AreTerms, IsSum, IsStmt, AreStmts, of_row}
+use Rattle.co_faithful.proofs.Within.{IsAtom, IsSum, IsStmt, of_row}
 use Rattle.co_faithful.proofs.Holds.{Item, value, address, Holds, stack_room, pushed, popped, top_is, stored, showed, moved}
 use Rattle.co_faithful.proofs.Live.{body_code, LoopAt, Leads, Takes, waits, Remain, term_of, term_end, Live, going, opening, opened, evaluating, loading, extending, waiting, fetching, ready, combining, giving, storing, Sim, live, over, Turned, earlier}
 

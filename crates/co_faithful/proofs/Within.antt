@@ -1,5 +1,5 @@
 -- Each variable of a program has a number below the count of its declarations, and each literal is an `int`.
-use Rattle.std.proofs.Common.{◌≡◌, ℕ, ◌+◌, ◌^◌, ◌<◌, ◌≤◌, List, [], ◌∷◌, length, refl, sym, ap, ◌∙◌, subst, arith, All}
+use Rattle.std.proofs.Common.{ℕ, ◌+◌, ◌^◌, ◌<◌, ◌≤◌, List, [], ◌∷◌, length, arith, All}
 use Rattle.std.proofs.lemmas.List.Elements.{All-cons, All-head, All-tail, All-contains, All-nil}
 use mathlib.Core.Former.{Count}
 use Rattle.co_tree.specs.declared.tree.Program.{Program}

@@ -1,5 +1,5 @@
 -- What it means that the code of a program does what the program does.
-use Rattle.std.specs.Prelude.{◌≡◌, ◌≢◌, ℕ, ◌+◌, ◌*◌, ◌≤◌, List, length, ℤ, pos}
+use Rattle.std.specs.Prelude.{◌≡◌, ◌≢◌, ℕ, ◌+◌, ◌*◌, ◌≤◌, List, length, pos}
 use Rattle.co_base.specs.declared.kinds.Undef.TheVariants.{U5}
 use Rattle.co_base.specs.declared.kinds.Limit.TheVariants.{Prints}
 use Rattle.co_tree.specs.declared.tree.Program.{Program}

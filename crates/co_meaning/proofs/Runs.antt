@@ -1,11 +1,11 @@
 -- The laws of runs.
-use Rattle.std.proofs.Common.{◌≡◌, ℕ, zero, suc, ◌+◌, List, [], ◌∷◌, ◌++◌, Bool, true, false, Option, Some, None, refl, sym, ap, ◌∙◌, append_assoc}
-use Rattle.std.specs.Prelude.{if◌then◌else◌, ℤ, pos, negsuc}
+use Rattle.std.proofs.Common.{◌≡◌, ℕ, zero, suc, List, [], ◌∷◌, ◌++◌, Bool, true, false, Some, None, refl, sym, ap, ◌∙◌, append_assoc}
+use Rattle.std.specs.Prelude.{if◌then◌else◌, ℤ}
 use Rattle.co_base.specs.declared.span.Span.{Span}
 use Rattle.co_tree.specs.declared.tree.Sum.TheVariants.{Int, Name}
 use Rattle.co_tree.specs.declared.tree.Term.{Term}
-use Rattle.co_meaning.specs.Meaning.{Purpose, Into, Show, Test, Doing, Evaluate, Extend, Give, Next, Ended, Failed, Frame, Rest, Again, Config, On, is_long, exact, variable, atom_value, extended, step, steps, printed}
-use Rattle.co_meaning.specs.Laws.{PrintsGrow, EndStays, SumsFromTheLeft, if_long, onto, sum_value, given, reversed}
+use Rattle.co_meaning.specs.Meaning.{Purpose, Into, Show, Test, Evaluate, Extend, Give, Next, Ended, Failed, Frame, Rest, Again, Config, On, is_long, exact, variable, atom_value, step, steps, printed}
+use Rattle.co_meaning.specs.Laws.{PrintsGrow, EndStays, SumsFromTheLeft, onto, sum_value, given, reversed}
 
 append-nil : (xs : List ℤ) → xs ≡ xs ++ []
 append-nil [] = refl

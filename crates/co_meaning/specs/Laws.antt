@@ -1,9 +1,9 @@
 -- What holds of every run.
-use Rattle.std.specs.Prelude.{◌≡◌, ℕ, ◌++◌, List, [], ◌∷◌, Bool, true, false, if◌then◌else◌, Option, Some, None, ℤ}
+use Rattle.std.specs.Prelude.{◌≡◌, ℕ, ◌++◌, List, [], ◌∷◌, if◌then◌else◌, Option, Some, None, ℤ}
 use Rattle.co_base.specs.declared.span.Span.{Span}
-use Rattle.co_tree.specs.declared.tree.Sum.TheVariants.{Int, Name}
+use Rattle.co_tree.specs.declared.tree.Sum.TheVariants.{Name}
 use Rattle.co_tree.specs.declared.tree.Term.{Term}
-use Rattle.co_meaning.specs.Meaning.{Purpose, Doing, Give, Ended, Failed, Evaluate, Config, On, Frame, is_long, exact, variable, atom_value, step, steps, printed}
+use Rattle.co_meaning.specs.Meaning.{Purpose, Doing, Give, Ended, Failed, Evaluate, Config, On, Frame, is_long, exact, variable, atom_value, steps, printed}
 
 -- what was printed is a front of what is printed later
 abbrev pub PrintsGrow : Type 0

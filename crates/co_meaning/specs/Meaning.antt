@@ -1,5 +1,5 @@
 -- What a program of the first form does: one step after the other, over its variables and what it has printed.
-use Rattle.std.specs.Prelude.{ℕ, zero, suc, ◌^◌, List, [], ◌∷◌, ◌++◌, length, Bool, true, false, nat_lt, if◌then◌else◌, get_or, slice_set, replicate, ℤ, pos, negsuc, ◌+ℤ◌, ◌-ℤ◌}
+use Rattle.std.specs.Prelude.{ℕ, zero, suc, ◌^◌, List, [], ◌∷◌, ◌++◌, length, Bool, nat_lt, if◌then◌else◌, get_or, slice_set, replicate, ℤ, pos, negsuc, ◌+ℤ◌, ◌-ℤ◌}
 use Rattle.co_base.specs.declared.span.Span.{Span}
 use Rattle.co_tree.specs.declared.tree.Program.{Program}
 use Rattle.co_tree.specs.declared.tree.Stmt.{Stmt, items-the_row-Stmt}
