@@ -32,9 +32,11 @@ take_past (x ∷ xs) ys n =
 pub broke_second : (xs ys : List ℕ) (a b c : Tape) → Gained xs a b → Broke ys b c → Broke (xs ++ ys) a c
 broke_second xs ys a b c g h = record {
   front =
-      let P : List ℕ → Type 0 = λ z. Takes a.taken z c.taken in
-      (length xs + h.front.0, omega (arith, length-append xs ys, h.front.1),
-      subst P (sym (take_past xs ys h.front.0)) (Takes-append a.taken b.taken c.taken xs (take h.front.0 ys) g.whole h.front.2));
+      let P : List ℕ → Type 0 = λ z. Takes a.taken z c.taken in (
+        length xs + h.front.0,
+        omega (arith, length-append xs ys, h.front.1),
+        subst P (sym (take_past xs ys h.front.0)) (Takes-append a.taken b.taken c.taken xs (take h.front.0 ys) g.whole h.front.2),
+      );
   risen = let P : ℕ → Type 0 = λ n. HasRisen n c.faults in subst P g.faultless h.risen;
 }
 

@@ -1,3 +1,4 @@
+pub mod Answers
 pub mod Status
 pub mod Texts
 pub mod Words

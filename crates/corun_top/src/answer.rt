@@ -30,7 +30,7 @@ pub enum Answer {
 }
 
 /// What the words and the files answer.
-pub fn answer<F: Files>(alloc: Global, words: &[String], files: &mut F) -> Answer
+pub fn answer_words<F: Files>(alloc: Global, words: &[String], files: &mut F) -> Answer
     ensures answer { Answers (map string_bytes words.now) (F.told files.old) (F.faults files.old) (F.faults files.new) result }
     ensures files { F.told files.new ≡ F.told files.old }
 {

@@ -1,9 +1,10 @@
 ghost use Rattle.std.specs.Prelude.{◌≡◌, map};
 ghost use Rattle.std.specs.String.{string_bytes};
+ghost use Rattle.corun_top.specs.declared.answer.Answer.{Answer};
 ghost use Rattle.corun_top.specs.Answers.{Answers, err_text, out_text, status_of_answer};
 ghost use Rattle.corun_top.specs.Written.{IsWritten};
 
-use crate::answer::{Answer, answer, run_counts, run_end};
+use crate::answer::{Answer, answer_words, run_counts, run_end};
 use crate::report::{report_refusal, report_run};
 use crate::status::Status;
 use co_base::{Files, Gate, Sink};
@@ -17,13 +18,13 @@ use std::thread::Threads;
 /// The clause `answer` says: there is an answer that the words and the told files determine (`Answers`), whose texts were written
 /// whole, or a write failed, and nothing was written after it (`IsWritten`).
 pub fn corun<R: Threads + Sync, F: Files, O: Sink, E: Sink, G: Gate + Sync>(
-    rt: &R,
+    _rt: &R,
     alloc: Global,
     words: &[String],
     files: &mut F,
     out: &mut O,
     err: &mut E,
-    gate: &G,
+    _gate: &G,
 ) -> Status
     ensures answer { (answer : Answer) × Answers (map string_bytes words.now) (F.told files.old) (F.faults files.old) (F.faults files.new) answer
         × IsWritten (status_of_answer answer) (out_text answer) (err_text answer)
@@ -31,8 +32,7 @@ pub fn corun<R: Threads + Sync, F: Files, O: Sink, E: Sink, G: Gate + Sync>(
         (record { taken = E.taken err.old; faults = E.faults err.old }) (record { taken = E.taken err.new; faults = E.faults err.new }) result }
     ensures files { F.told files.new ≡ F.told files.old }
 {
-    let _ = (rt, gate);
-    match answer(alloc, words, files) {
+    match answer_words(alloc, words, files) {
         Answer::Ran(local) => {
             let end = run_end(local.stop());
             report_run(local.prints(), end, &run_counts(&local), out, err)

@@ -10,5 +10,5 @@ pub returns-clause-failed : goal.returns-clause-failed
 returns-clause-failed g c =
     on_err_weaker c.offer.result
     (λ (broke : Broke c.end_line.result (record { taken = g.O.Sink.taken c.write_prints.new.out; faults = g.O.Sink.faults c.write_prints.new.out }) (record { taken = g.O.Sink.taken c.offer.new.sink; faults = g.O.Sink.faults c.offer.new.sink })).
-      broke_second (flat_map print_text c.args.prints.now) _ _ _ _ c.in_ok-write_prints.ensures.ok (rw (← c.end_line.ensures) broke))
+    broke_second (flat_map print_text c.args.prints.now) _ _ _ _ c.in_ok-write_prints.ensures.ok (rw (← c.end_line.ensures) broke))
     c.offer.ensures.failed
