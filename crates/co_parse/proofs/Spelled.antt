@@ -137,7 +137,7 @@ name_sound word next kind false e some all end h =
     let is : Name word ≡ kind = cc in
     let letters = All-from_recursion (λ byte. is_letter byte ≡ true) word all in
     subst (λ k. Spelled k word next) is
-        (refl, record { some = some; letters = λ k d l. is_IsLetter _ (letters k d l); free = free_is word e }, end)
+    (refl, record { some = some; letters = λ k d l. is_IsLetter _ (letters k d l); free = free_is word e }, end)
 
 word_sound_by : (word next : List ℕ) (kind : Kind) (found : Option Mark) → keyword word ≡ found → 0 < length word → AllByRecursion (λ byte. is_letter byte ≡ true) word → Ends next
     → kind_by word found ≡ Some kind → Spelled kind word next
@@ -205,10 +205,10 @@ number_by digits next kind None e some all end h = absurd cc
 number_by digits next kind (Some value) e some all end h =
     let is : Number value ≡ kind = cc in
     pick (is_plain digits) (value_from 0 digits) None value (Spelled kind digits next)
-        (λ plain v. let s = value_sound 0 value digits (omega arith) v in
-            subst (λ k. Spelled k digits next) is
-                (record { some = some; digits = All-from_recursion (λ byte. is_digit byte ≡ true) digits all; plain = plain_sound digits plain }, s.0, s.1, end))
-        (λ _ v. absurd cc) e
+    (λ plain v. let s = value_sound 0 value digits (omega arith) v in
+    subst (λ k. Spelled k digits next) is
+    (record { some = some; digits = All-from_recursion (λ byte. is_digit byte ≡ true) digits all; plain = plain_sound digits plain }, s.0, s.1, end))
+    (λ _ v. absurd cc) e
 
 number_complete : (digits : List ℕ) (value : ℕ) → IsDecimal digits → value_after 0 digits ≡ value → value < 2 ^ 31 → number digits ≡ Some value
 unfolding number
@@ -238,11 +238,11 @@ word_fronts bytes kind size some =
     let n = prefix_len is_letter bytes in
     let front = front_is is_letter bytes in
     pick (ends (drop n bytes)) (sized n (word_kind (take n bytes))) None (kind, size) (Fronts bytes kind size)
-        (λ end h. let s = sized_is n size (word_kind (take n bytes)) kind h in
-            let l : length (take n bytes) ≡ n = simp length-take (omega (arith, front.within)) in
-            subst (λ k. Fronts bytes kind k) s.1
-                (record { within = front.within; some = some; spelled = word_sound (take n bytes) (drop n bytes) kind (omega arith) front.all (is_ends (drop n bytes) end) s.0 }))
-        (λ _ h. absurd cc)
+    (λ end h. let s = sized_is n size (word_kind (take n bytes)) kind h in
+    let l : length (take n bytes) ≡ n = simp length-take (omega (arith, front.within)) in
+    subst (λ k. Fronts bytes kind k) s.1
+    (record { within = front.within; some = some; spelled = word_sound (take n bytes) (drop n bytes) kind (omega arith) front.all (is_ends (drop n bytes) end) s.0 }))
+    (λ _ h. absurd cc)
 
 number_fronts : (bytes : List ℕ) (kind : Kind) (size : ℕ) → 0 < prefix_len is_digit bytes → number_token bytes ≡ Some (kind, size) → Fronts bytes kind size
 unfolding number_token
@@ -250,21 +250,21 @@ number_fronts bytes kind size some =
     let n = prefix_len is_digit bytes in
     let front = front_is is_digit bytes in
     pick (ends (drop n bytes)) (sized n (number_kind (number (take n bytes)))) None (kind, size) (Fronts bytes kind size)
-        (λ end h. let s = sized_is n size (number_kind (number (take n bytes))) kind h in
-            let l : length (take n bytes) ≡ n = simp length-take (omega (arith, front.within)) in
-            subst (λ k. Fronts bytes kind k) s.1
-                (record { within = front.within; some = some; spelled = number_by (take n bytes) (drop n bytes) kind (number (take n bytes)) refl (omega arith) front.all (is_ends (drop n bytes) end) s.0 }))
-        (λ _ h. absurd cc)
+    (λ end h. let s = sized_is n size (number_kind (number (take n bytes))) kind h in
+    let l : length (take n bytes) ≡ n = simp length-take (omega (arith, front.within)) in
+    subst (λ k. Fronts bytes kind k) s.1
+    (record { within = front.within; some = some; spelled = number_by (take n bytes) (drop n bytes) kind (number (take n bytes)) refl (omega arith) front.all (is_ends (drop n bytes) end) s.0 }))
+    (λ _ h. absurd cc)
 
 scope_fronts : (byte : ℕ) (bytes : List ℕ) (kind : Kind) (size : ℕ) → byte ≡ 58 → cond {A = Option (Kind × ℕ)} (begins_with 58 bytes) (Some (Fixed m.Scope, 2)) None ≡ Some (kind, size) → Fronts (byte ∷ bytes) kind size
 scope_fronts byte [] kind size e h = absurd cc
 scope_fronts byte (other ∷ bytes) kind size e h =
     pick (nat_eq other 58) (Some (Fixed m.Scope, 2)) None (kind, size) (Fronts (byte ∷ other ∷ bytes) kind size)
-        (λ o h'. let same_token = pair_is (Fixed m.Scope) kind 2 size h' in let k = same_token.0 in let n = same_token.1 in
-            let same : byte ∷ other ∷ [] ≡ 58 ∷ 58 ∷ [] = ap (λ x. x ∷ other ∷ []) e ∙ ap (λ x. 58 ∷ x ∷ []) (eqb-true other 58 o) in
-            subst (λ k'. Fronts (byte ∷ other ∷ bytes) k' size) k (subst (λ n'. Fronts (byte ∷ other ∷ bytes) (Fixed m.Scope) n') n
-                (record { within = omega arith; some = omega arith; spelled = (same, λ w. absurd (false≢true w)) })))
-        (λ _ h'. absurd cc) h
+    (λ o h'. let same_token = pair_is (Fixed m.Scope) kind 2 size h' in let k = same_token.0 in let n = same_token.1 in
+    let same : byte ∷ other ∷ [] ≡ 58 ∷ 58 ∷ [] = ap (λ x. x ∷ other ∷ []) e ∙ ap (λ x. 58 ∷ x ∷ []) (eqb-true other 58 o) in
+    subst (λ k'. Fronts (byte ∷ other ∷ bytes) k' size) k (subst (λ n'. Fronts (byte ∷ other ∷ bytes) (Fixed m.Scope) n') n
+    (record { within = omega arith; some = omega arith; spelled = (same, λ w. absurd (false≢true w)) })))
+    (λ _ h'. absurd cc) h
 
 fixed_fronts : (byte : ℕ) (bytes : List ℕ) (kind : Kind) (size : ℕ) (found : Option Mark) → punctuator byte ≡ found → fixed 1 found ≡ Some (kind, size) → Fronts (byte ∷ bytes) kind size
 fixed_fronts byte bytes kind size None e h = absurd cc
@@ -272,14 +272,14 @@ fixed_fronts byte bytes kind size (Some mark) e h =
     let same_token = pair_is (Fixed mark) kind 1 size h in let k = same_token.0 in let n = same_token.1 in
     let is = punctuator_is byte mark e in
     subst (λ k'. Fronts (byte ∷ bytes) k' size) k (subst (λ n'. Fronts (byte ∷ bytes) (Fixed mark) n') n
-        (record { within = omega arith; some = omega arith; spelled = (is.0, λ w. absurd (false≢true (sym is.1 ∙ w))) }))
+    (record { within = omega arith; some = omega arith; spelled = (is.0, λ w. absurd (false≢true (sym is.1 ∙ w))) }))
 
 punctuator_fronts : (byte : ℕ) (bytes : List ℕ) (kind : Kind) (size : ℕ) → punctuator_token byte bytes ≡ Some (kind, size) → Fronts (byte ∷ bytes) kind size
 unfolding punctuator_token
 punctuator_fronts byte bytes kind size =
     pick (nat_eq byte 58) (cond {A = Option (Kind × ℕ)} (begins_with 58 bytes) (Some (Fixed m.Scope, 2)) None) (fixed 1 (punctuator byte)) (kind, size) (Fronts (byte ∷ bytes) kind size)
-        (λ e h. scope_fronts byte bytes kind size (eqb-true byte 58 e) h)
-        (λ _ h. fixed_fronts byte bytes kind size (punctuator byte) refl h)
+    (λ e h. scope_fronts byte bytes kind size (eqb-true byte 58 e) h)
+    (λ _ h. fixed_fronts byte bytes kind size (punctuator byte) refl h)
 
 pub first_sound : (bytes : List ℕ) (kind : Kind) (size : ℕ) → first_token bytes ≡ Some (kind, size) → Fronts bytes kind size
 unfolding first_token
@@ -287,10 +287,10 @@ first_sound [] kind size h = absurd cc
 first_sound (byte ∷ bytes) kind size h =
     let rest = cond (is_digit byte) (number_token (byte ∷ bytes)) (punctuator_token byte bytes) in
     pick (is_letter byte) (word_token (byte ∷ bytes)) rest (kind, size) (Fronts (byte ∷ bytes) kind size)
-        (λ e h. word_fronts (byte ∷ bytes) kind size (starts is_letter byte bytes e) h)
-        (λ _ h'. pick (is_digit byte) (number_token (byte ∷ bytes)) (punctuator_token byte bytes) (kind, size) (Fronts (byte ∷ bytes) kind size)
-            (λ e g. number_fronts (byte ∷ bytes) kind size (starts is_digit byte bytes e) g)
-            (λ _ g. punctuator_fronts byte bytes kind size g) h') h
+    (λ e h. word_fronts (byte ∷ bytes) kind size (starts is_letter byte bytes e) h)
+    (λ _ h'. pick (is_digit byte) (number_token (byte ∷ bytes)) (punctuator_token byte bytes) (kind, size) (Fronts (byte ∷ bytes) kind size)
+    (λ e g. number_fronts (byte ∷ bytes) kind size (starts is_digit byte bytes e) g)
+    (λ _ g. punctuator_fronts byte bytes kind size g) h') h
 
 token_of_run : (p : ℕ → Bool) (word next : List ℕ) (kind_of : List ℕ → Option Kind) → AllByRecursion (λ byte. p byte ≡ true) word → prefix_len p next ≡ 0 → Ends next
     → cond (ends (drop (prefix_len p (word ++ next)) (word ++ next))) (sized (prefix_len p (word ++ next)) (kind_of (take (prefix_len p (word ++ next)) (word ++ next)))) None ≡ sized (length word) (kind_of word)
@@ -349,7 +349,7 @@ pub first_complete : (kind : Kind) (bytes next : List ℕ) → Spelled kind byte
 first_complete (Fixed mark) bytes next h = subst (λ b. first_token (b ++ next) ≡ Some (Fixed mark, length b)) (sym h.0) (fixed_complete mark next h.1)
 first_complete (Name name) bytes next h =
     subst (λ b. first_token (b ++ next) ≡ Some (Name name, length b)) (sym h.0)
-        (word_complete name next h.1.some (kept_letters name h.1) h.2 ∙ ap (sized (length name)) (name_complete name h.1))
+    (word_complete name next h.1.some (kept_letters name h.1) h.2 ∙ ap (sized (length name)) (name_complete name h.1))
 first_complete (Number value) bytes next h =
     digits_complete bytes next h.0.some (recursion_from_All (λ byte. is_digit byte ≡ true) bytes h.0.digits) h.3
     ∙ ap (λ found. sized (length bytes) (number_kind found)) (number_complete bytes value h.0 h.1 h.2)

@@ -45,8 +45,8 @@ var_sound names known name x ag h =
 pub var_complete : (names : Names) (known : Known) (name : List ℕ) (x : ℕ) → Agrees names known → slice_get names x ≡ Some name → Contains known.visible x → variable known name ≡ Some x
 var_complete names known name x ag at seen =
     variable_from known name x
-        (λ i j n hi hj. ag.distinct i j n (longer i n hi) (longer j n hj))
-        (get_shorter known.names ag.later x name (ag.below x seen) (subst (λ ns. slice_get ns x ≡ Some name) ag.longer at)) seen
+    (λ i j n hi hj. ag.distinct i j n (longer i n hi) (longer j n hj))
+    (get_shorter known.names ag.later x name (ag.below x seen) (subst (λ ns. slice_get ns x ≡ Some name) ag.longer at)) seen
   where
     longer : (i : ℕ) (n : List ℕ) → slice_get known.names i ≡ Some n → slice_get names i ≡ Some n
     longer i n h = subst (λ ns. slice_get ns i ≡ Some n) (sym ag.longer) (get_longer known.names ag.later i n h)
@@ -114,11 +114,11 @@ join_sound names known (Some op) (Some atom) (Some r) first second tokens terms 
     let t = ih r.0 r.1 refl in
     let s = atom_sound names known second.kind atom ag law.1.0 a in
     let are : AreTerms names (term op atom ∷ r.0) (first ∷ second ∷ tokens) r.1 =
-        subst (λ k. AreTerms names (term op atom ∷ r.0) (token k first.span ∷ second ∷ tokens) r.1) (sym (op_is first.kind op o))
-            (more op atom r.0 second.kind first.span second.span tokens r.1 s.0 t.are) in
+    subst (λ k. AreTerms names (term op atom ∷ r.0) (token k first.span ∷ second ∷ tokens) r.1) (sym (op_is first.kind op o))
+    (more op atom r.0 second.kind first.span second.span tokens r.1 s.0 t.are) in
     subst (λ ts. TermsRead names known ts (first ∷ second ∷ tokens) rest) p.0
-        (subst (λ x. TermsRead names known (term op atom ∷ r.0) (first ∷ second ∷ tokens) x) p.1
-            (record { are = are; stand = All-cons (TermStands known) (term op atom) r.0 s.1 t.stand; law = t.law }))
+    (subst (λ x. TermsRead names known (term op atom ∷ r.0) (first ∷ second ∷ tokens) x) p.1
+    (record { are = are; stand = All-cons (TermStands known) (term op atom) r.0 s.1 t.stand; law = t.law }))
 
 terms_sound : (names : Names) (known : Known) (tokens : List Token) (terms : List Term) (rest : List Token) → Agrees names known → AreLawful tokens → terms_of known tokens ≡ Some (terms, rest) → TermsRead names known terms tokens rest
 unfolding terms_of
@@ -126,7 +126,7 @@ terms_sound names known [] terms rest ag law h = let p = pair_parts {A = List Te
 terms_sound names known (first ∷ []) terms rest ag law h = lone_sound names known (op_of first.kind) first terms rest law h
 terms_sound names known (first ∷ second ∷ tokens) terms rest ag law h =
     join_sound names known (op_of first.kind) (atom_of known second.kind) (terms_of known tokens) first second tokens terms rest refl refl
-        (λ ts r e. terms_sound names known tokens ts r ag law.1.1 e) ag law h
+    (λ ts r e. terms_sound names known tokens ts r ag law.1.1 e) ag law h
 
 terms_complete : (names : Names) (known : Known) (terms : List Term) (tokens after : List Token) → Agrees names known → AreTerms names terms tokens after → next_op after ≡ None → All (TermStands known) terms
     → terms_of known tokens ≡ Some (terms, after)
@@ -153,8 +153,8 @@ limit_sound names known name x at tokens terms between value rest n seen t h =
     let c = chosen (nat_le (length terms) 64) (Some (sum.Name x terms at, between)) (value, rest) h in
     let p = pair_parts (sum.Name x terms at) value between rest c.1 in
     subst (λ v. SumRead names known v (token (Name name) at ∷ tokens) rest) p.0
-        (subst (λ r. SumRead names known (sum.Name x terms at) (token (Name name) at ∷ tokens) r) p.1
-            (record { is = variable_sum x name terms at tokens between n t.are; stand = (seen, leb-true (length terms) 64 c.0, t.stand); law = t.law }))
+    (subst (λ r. SumRead names known (sum.Name x terms at) (token (Name name) at ∷ tokens) r) p.1
+    (record { is = variable_sum x name terms at tokens between n t.are; stand = (seen, leb-true (length terms) 64 c.0, t.stand); law = t.law }))
 
 sum_sound_by : (names : Names) (known : Known) (kind : Kind) (at : Span) (tokens : List Token) (value : Sum) (rest : List Token) → Agrees names known → IsLawful kind → AreLawful tokens
     → sum_by known kind at tokens ≡ Some (value, rest) → SumRead names known value (token kind at ∷ tokens) rest
@@ -163,8 +163,8 @@ sum_sound_by names known (Fixed mark) at tokens value rest ag law laws h = absur
 sum_sound_by names known (Number number) at tokens value rest ag law laws h =
     let p = pair_parts (sum.Int number at) value tokens rest h in
     subst (λ v. SumRead names known v (token (Number number) at ∷ tokens) rest) p.0
-        (subst (λ r. SumRead names known (sum.Int number at) (token (Number number) at ∷ tokens) r) p.1
-            (record { is = literal number at tokens; stand = law; law = laws }))
+    (subst (λ r. SumRead names known (sum.Int number at) (token (Number number) at ∷ tokens) r) p.1
+    (record { is = literal number at tokens; stand = law; law = laws }))
 sum_sound_by names known (Name name) at tokens value rest ag law laws h =
     let v = bound (variable known name) (λ x. terms_of known tokens >>= limited x at) (value, rest) h in
     let t = bound (terms_of known tokens) (limited v.0 at) (value, rest) v.2 in
@@ -205,7 +205,7 @@ and_sound names known mark tokens value rest ag law h =
     let is : IsSum names s.0.0 tokens (sign mark k.0 ∷ t.0) = subst (λ ts. IsSum names s.0.0 tokens ts) k.1 r.is in
     let laws : AreLawful (sign mark k.0 ∷ t.0) = subst AreLawful k.1 r.law in
     subst (λ v. AndRead names known mark v tokens rest) p.0
-        (subst (λ x. AndRead names known mark s.0.0 tokens x) p.1 (record { at = k.0; is = is; stand = r.stand; law = laws.1 }))
+    (subst (λ x. AndRead names known mark s.0.0 tokens x) p.1 (record { at = k.0; is = is; stand = r.stand; law = laws.1 }))
 
 pub and_complete : (names : Names) (known : Known) (mark : Mark) (at : Span) (value : Sum) (tokens rest : List Token) → Agrees names known → op_of (Fixed mark) ≡ None → IsSum names value tokens (sign mark at ∷ rest)
     → SumStands (scope_of known) value → sum_and mark known tokens ≡ Some (value, rest)

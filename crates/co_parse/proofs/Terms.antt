@@ -10,7 +10,7 @@ use Rattle.co_tree.specs.declared.tree.Atom.{Atom}
 use Rattle.co_parse.specs.declared.token.Token.{Token}
 use Rattle.co_parse.specs.Grammar.{term}
 use Rattle.co_parse.specs.Known.{Known}
-use Rattle.co_parse.specs.Parse.{terms_of, op_of, next_op, atom_of, next_atom, and_rest, joined, lone, Reads}
+use Rattle.co_parse.specs.Parse.{terms_of, op_of, next_op, atom_of, next_atom, and_rest, joined, lone, Reads, Steps}
 
 abbrev pub behind : List Term → Option (List Term × List Token) → Option (List Term × List Token)
 behind done None = None
@@ -79,3 +79,7 @@ reads_err outcome r NoMemory new is says = subst (λ x. Reads outcome x new) (sy
 pub reads_none : {A S : Type 0} (outcome : Option (A × S)) (e : ParseFault) (new : S) → Reads outcome (Err e) new → e ≡ Syntax → outcome ≡ None
 reads_none outcome Syntax new h s = h
 reads_none outcome NoMemory new h s = absurd cc
+
+pub steps_none : {S : Type 0} (outcome : Option S) (e : ParseFault) (new : S) → Steps outcome (Err e) new → e ≡ Syntax → outcome ≡ None
+steps_none outcome Syntax new h s = h
+steps_none outcome NoMemory new h s = absurd cc

@@ -7,6 +7,8 @@ use Rattle.co_base.specs.declared.span.Span.{Span}
 use Rattle.co_parse.specs.declared.token.Kind.{Kind}
 use Rattle.co_parse.specs.declared.token.Token.{Token}
 use Rattle.co_parse.specs.Spelling.{first_place, Spelled, beside, below, token, Spells, ended, space, newline, spelled}
+use Rattle.co_parse.specs.declared.token.Kind.TheVariants.{Fixed, Name, Number}
+use Rattle.co_parse.specs.Grammar.{IsLawful, AreLawful}
 use Rattle.co_parse.specs.Lex.{first_token, punctuator_token, punctuator, blank}
 use Rattle.co_parse.proofs.Spelled.{pick, pair_is, first_sound, first_complete}
 
@@ -31,8 +33,8 @@ data Blank (at after : Span) (byte : ℕ) : Type 0 where
 blank_is : (at after : Span) (byte : ℕ) → blank at byte ≡ Some after → Blank at after byte
 blank_is at after byte h =
     pick (nat_eq byte 32) (Some (beside at 1)) (cond (nat_eq byte 10) (Some (below at)) None) after (Blank at after byte)
-        (λ e is. is_space (eqb-true byte 32 e) cc)
-        (λ _ more. pick (nat_eq byte 10) (Some (below at)) None after (Blank at after byte) (λ e is. is_newline (eqb-true byte 10 e) cc) (λ _ is. absurd cc) more) h
+    (λ e is. is_space (eqb-true byte 32 e) cc)
+    (λ _ more. pick (nat_eq byte 10) (Some (below at)) None after (Blank at after byte) (λ e is. is_newline (eqb-true byte 10 e) cc) (λ _ is. absurd cc) more) h
 
 blank_none : (at after : Span) (byte : ℕ) (next : List ℕ) → blank at byte ≡ Some after → first_token (byte ∷ next) ≡ None
 blank_none at after byte next h = at_byte (blank_is at after byte h)
@@ -68,7 +70,7 @@ began at bytes tokens (space _ next _ h) = at_blank 32 (beside at 1) next refl r
 began at bytes tokens (newline _ next _ h) = at_blank 10 (below at) next refl refl (none_newline next) h
 began at bytes tokens (spelled _ kind front next more is h) =
     at_token kind (length front) more (first_complete kind front next is) refl
-        (subst (λ xs. Spells (beside at (length front)) xs more) (sym (drop-append_seam front next)) h)
+    (subst (λ xs. Spells (beside at (length front)) xs more) (sym (drop-append_seam front next)) h)
 
 pub past_token : (at : Span) (bytes : List ℕ) (kind : Kind) (size : ℕ) (tokens : List Token) → first_token bytes ≡ Some (kind, size) → Spells at bytes tokens
     → (more : List Token) × (tokens ≡ token kind at ∷ more) × Spells (beside at size) (drop size bytes) more
@@ -109,7 +111,7 @@ add_token at bytes kind size tokens e h =
     let f = first_sound bytes kind size e in
     let l : size ≡ length (take size bytes) = simp length-take (omega (arith, f.within)) in
     subst (λ xs. Spells at xs (token kind at ∷ tokens)) (take-append-drop size bytes)
-        (spelled at kind (take size bytes) (drop size bytes) tokens f.spelled (subst (λ n. Spells (beside at n) (drop size bytes) tokens) l h))
+    (spelled at kind (take size bytes) (drop size bytes) tokens f.spelled (subst (λ n. Spells (beside at n) (drop size bytes) tokens) l h))
 
 at_none : (at : Span) (tokens : List Token) → Spells at [] tokens → tokens ≡ []
 at_none at tokens h = past (began at [] tokens h)
@@ -166,9 +168,9 @@ reading_token bytes tokens gained at rest next kind size r f g d =
     let l : length next + size ≡ length rest = ap (λ xs. length xs + size) d ∙ (simp length-drop (omega (arith, w.within))) in
     record {
       sound = λ more s. (
-        let t = add_token at rest kind size more f (subst (λ xs. Spells (beside at size) xs more) d s) in
-        let e : tokens ++ (token kind at ∷ more) ≡ gained ++ more = sym (ap (λ ts. ts ++ more) g ∙ append_assoc tokens (token kind at ∷ []) more) in
-        subst (λ ts. Spells first_place bytes ts) e (r.sound (token kind at ∷ more) t));
+          let t = add_token at rest kind size more f (subst (λ xs. Spells (beside at size) xs more) d s) in
+          let e : tokens ++ (token kind at ∷ more) ≡ gained ++ more = sym (ap (λ ts. ts ++ more) g ∙ append_assoc tokens (token kind at ∷ []) more) in
+          subst (λ ts. Spells first_place bytes ts) e (r.sound (token kind at ∷ more) t));
       whole = λ all s. (let m = r.whole all s in let p = past_token at rest kind size m.0 f m.1 in (p.0, subst (λ xs. Spells (beside at size) xs p.0) (sym d) p.2));
       column = omega (arith, r.column);
       room = omega (arith, r.room, w.within);
@@ -185,3 +187,16 @@ pub reading_end : (bytes : List ℕ) (tokens : List Token) (at : Span) (rest : L
 reading_end bytes tokens at rest r n =
     let e : Spells at rest [] = subst (λ xs. Spells at xs []) (sym (nothing rest n)) (ended at) in
     subst (λ ts. Spells first_place bytes ts) (append-nil tokens) (r.sound [] e)
+
+-- ---- what a file's tokens are
+
+spelled_law : (kind : Kind) (bytes next : List ℕ) → Spelled kind bytes next → IsLawful kind
+spelled_law (Fixed mark) bytes next h = tt
+spelled_law (Name name) bytes next h = h.1
+spelled_law (Number value) bytes next h = h.2
+
+pub lawful : (at : Span) (bytes : List ℕ) (tokens : List Token) → Spells at bytes tokens → AreLawful tokens
+lawful at bytes tokens (ended _) = tt
+lawful at bytes tokens (space _ next _ s) = lawful (beside at 1) next tokens s
+lawful at bytes tokens (newline _ next _ s) = lawful (below at) next tokens s
+lawful at bytes tokens (spelled _ kind front next more is s) = (spelled_law kind front next is, lawful (beside at (length front)) next more s)

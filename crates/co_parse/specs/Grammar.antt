@@ -103,3 +103,7 @@ pub record IsFile (bytes : List ℕ) (program : Program) : Type 0 where
   pub spelled : Spells first_place bytes tokens
   pub tree : IsMain program tokens
   pub formed : IsFormed program
+
+-- the bytes are those of one tree at most
+abbrev pub HasOneTree : List ℕ → Type 0
+HasOneTree bytes = (p q : Program) → IsFile bytes p → IsFile bytes q → p ≡ q

@@ -30,7 +30,6 @@ pub struct Parser<'a> {
 
 impl<'a> Model for Parser<'a> {
     ghost use Rattle.co_parse.specs.Place.{Place};
-
     ghost use Rattle.std.specs.Coded.{codes};
     ghost use Rattle.co_tree.specs.contracts.tree.Stmt as stmt;
     ghost use Rattle.co_parse.specs.contracts.token.Token as token;

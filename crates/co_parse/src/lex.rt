@@ -101,7 +101,11 @@ fn is_plain(digits: &[u8]) -> bool
 fn number(digits: &[u8]) -> Option<u32>
     ensures { result ≡ spec.number digits.now }
 {
-    if is_plain(digits) { value(digits) } else { None }
+    if is_plain(digits) {
+        value(digits)
+    } else {
+        None
+    }
 }
 
 #[tactic(auto, unfolding(crate::specs::Lex::number_token))]
