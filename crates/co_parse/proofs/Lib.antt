@@ -1,0 +1,12 @@
+pub mod Spelled
+pub mod Tokens
+pub mod Terms
+pub mod Marks
+pub mod Look
+pub mod SumsRead
+pub mod Opened
+pub mod Zipper
+pub mod Backward
+pub mod Forward
+pub mod Whole
+pub mod File
