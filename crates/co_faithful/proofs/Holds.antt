@@ -5,9 +5,9 @@ use Rattle.std.proofs.lemmas.List.{length-set}
 use Rattle.std.proofs.lemmas.Bool.{cases_eq}
 use mir.Val.{to_z}
 use mir.Syntax.{w64}
-use Rattle.co_exec.specs.declared.local.Local.{Local}
-use Rattle.co_exec.specs.declared.instr.Stop.TheVariants.{Running}
-use Rattle.co_exec.specs.Opening.{stack_words}
+use Rattle.co_first_exec.specs.declared.local.Local.{Local}
+use Rattle.co_first_exec.specs.declared.instr.Stop.TheVariants.{Running}
+use Rattle.co_first_exec.specs.Opening.{stack_words}
 
 -- a word on the stack: the value of a sum so far, or the address of a variable
 pub data Item : Type 0 where

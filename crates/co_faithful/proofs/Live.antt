@@ -12,11 +12,11 @@ use Rattle.co_tree.specs.declared.tree.Term.{Term}
 use Rattle.co_tree.specs.declared.tree.SumOp.{SumOp}
 use Rattle.co_tree.specs.declared.tree.Atom.{Atom}
 use Rattle.co_tree.specs.declared.tree.Atom.TheVariants as operand
-use Rattle.co_exec.specs.declared.instr.Instr.TheVariants.{Const, Arith, Slot, Load, Store, Push, Pop, Jump, JumpZ, MainRet}
-use Rattle.co_exec.specs.declared.instr.Instr.TheVariants as instr
-use Rattle.co_exec.specs.declared.instr.Placed.{Placed}
-use Rattle.co_exec.specs.declared.instr.Stop.TheVariants.{Running}
-use Rattle.co_exec.specs.declared.local.Local.{Local}
+use Rattle.co_first_exec.specs.declared.instr.Instr.TheVariants.{Const, Arith, Slot, Load, Store, Push, Pop, Jump, JumpZ, MainRet}
+use Rattle.co_first_exec.specs.declared.instr.Instr.TheVariants as instr
+use Rattle.co_first_exec.specs.declared.instr.Placed.{Placed}
+use Rattle.co_first_exec.specs.declared.instr.Stop.TheVariants.{Running}
+use Rattle.co_first_exec.specs.declared.local.Local.{Local}
 use Rattle.co_meaning.specs.Meaning.{Purpose, Into, Show, Test, Evaluate, Extend, Give, Next, Frame, Rest, Again, Config, On, atom_value, step, steps, doing_of, printed}
 use Rattle.co_gen.specs.Code.{placed, op_of, span_of, atom_code, terms_code, sum_code, assign_code, while_code, list_code, main_end}
 use Rattle.co_faithful.specs.Faithful.{IsGoing, Agree}

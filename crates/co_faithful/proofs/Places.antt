@@ -3,7 +3,7 @@ use Rattle.std.proofs.Common.{◌≡◌, ℕ, ◌+◌, ◌<◌, List, [], ◌∷
 use Rattle.std.specs.Prelude.{slice_get}
 use Rattle.std.proofs.Math.Seq.{get_or-append_seam}
 use Rattle.std.proofs.lemmas.Option.{slice_get-get_or}
-use Rattle.co_exec.specs.declared.instr.Placed.{Placed}
+use Rattle.co_first_exec.specs.declared.instr.Placed.{Placed}
 
 -- the instructions stand in the code from this place on
 abbrev pub HasAt : List Placed → ℕ → List Placed → Type 0

@@ -9,10 +9,10 @@ use Rattle.co_tree.specs.declared.tree.Sum.TheVariants.{Int, Name}
 use Rattle.co_tree.specs.declared.tree.SumOp.{SumOp}
 use Rattle.co_tree.specs.declared.tree.SumOp.TheVariants.{Add, Sub}
 use Rattle.co_tree.specs.declared.tree.Atom.TheVariants as operand
-use Rattle.co_exec.specs.declared.instr.Stop.TheVariants.{Main, Budget}
-use Rattle.co_exec.specs.declared.local.Local.{Local}
-use Rattle.co_exec.specs.Opening.{opening}
-use Rattle.co_exec.specs.Machine.{turns}
+use Rattle.co_first_exec.specs.declared.instr.Stop.TheVariants.{Main, Budget}
+use Rattle.co_first_exec.specs.declared.local.Local.{Local}
+use Rattle.co_first_exec.specs.Opening.{opening}
+use Rattle.co_first_exec.specs.Machine.{turns}
 use Rattle.co_meaning.specs.Meaning.{Next, Ended, Rest, Config, On, steps, doing_of, printed}
 use Rattle.co_gen.specs.Code.{list_code, main_end}
 

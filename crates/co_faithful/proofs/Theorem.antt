@@ -6,15 +6,15 @@ use mir.Val.{to_z}
 use mir.Syntax.{w64}
 use Rattle.co_tree.specs.declared.tree.Program.{Program}
 use Rattle.co_tree.specs.Form.{IsFormed}
-use Rattle.co_exec.specs.declared.instr.Placed.{Placed}
-use Rattle.co_exec.specs.declared.instr.Stop.{Stop}
-use Rattle.co_exec.specs.declared.instr.Stop.TheVariants.{Running, Budget}
-use Rattle.co_exec.specs.declared.local.Local.{Local}
-use Rattle.co_exec.specs.declared.turn.Due.TheVariants.{OutOfBudget}
-use Rattle.co_exec.specs.Opening.{opening, stack_words}
-use Rattle.co_exec.specs.Laws.{KeepsLimits}
-use Rattle.co_exec.proofs.Limits.{stay, limits}
-use Rattle.co_exec.specs.Machine.{checked, due_running, due_after, taken, turn, turns}
+use Rattle.co_first_exec.specs.declared.instr.Placed.{Placed}
+use Rattle.co_first_exec.specs.declared.instr.Stop.{Stop}
+use Rattle.co_first_exec.specs.declared.instr.Stop.TheVariants.{Running, Budget}
+use Rattle.co_first_exec.specs.declared.local.Local.{Local}
+use Rattle.co_first_exec.specs.declared.turn.Due.TheVariants.{OutOfBudget}
+use Rattle.co_first_exec.specs.Opening.{opening, stack_words}
+use Rattle.co_first_exec.specs.Laws.{KeepsLimits}
+use Rattle.co_first_exec.proofs.Limits.{stay, limits}
+use Rattle.co_first_exec.specs.Machine.{checked, due_running, due_after, taken, turn, turns}
 use Rattle.co_meaning.specs.Meaning.{Rest, Config, step, steps, start, doing_of}
 use Rattle.co_gen.specs.Code.{list_code, main_end, code_of}
 use Rattle.co_faithful.specs.Faithful.{IsGoing, Ends, Agree, after_turns, IsFaithful, Ran}

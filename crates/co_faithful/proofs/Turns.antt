@@ -16,16 +16,16 @@ use Rattle.co_tree.specs.declared.tree.SumOp.{SumOp}
 use Rattle.co_tree.specs.declared.tree.SumOp.TheVariants.{Add, Sub}
 use Rattle.co_tree.specs.declared.tree.Atom.{Atom}
 use Rattle.co_tree.specs.declared.tree.Atom.TheVariants as operand
-use Rattle.co_exec.specs.declared.instr.Instr.TheVariants.{Const, Arith, Slot, Load, Store, Push, Pop, Jump, JumpZ, MainRet}
-use Rattle.co_exec.specs.declared.instr.Instr.TheVariants as instr
-use Rattle.co_exec.specs.declared.instr.Placed.{Placed}
-use Rattle.co_exec.specs.declared.instr.Stop.TheVariants.{Running}
-use Rattle.co_exec.specs.declared.local.Local.{Local}
-use Rattle.co_exec.specs.declared.turn.Due.TheVariants.{OutOfBudget, Meets, Does}
-use Rattle.co_exec.specs.declared.turn.Computed.{Computed}
-use Rattle.co_exec.specs.declared.turn.Computed.TheVariants.{Value, Outside, Absent}
-use Rattle.co_exec.specs.Machine as machine
-use Rattle.co_exec.specs.Machine.{lawful, met, checked, due_running, due_after, computed, settle, branch, taken, turn}
+use Rattle.co_first_exec.specs.declared.instr.Instr.TheVariants.{Const, Arith, Slot, Load, Store, Push, Pop, Jump, JumpZ, MainRet}
+use Rattle.co_first_exec.specs.declared.instr.Instr.TheVariants as instr
+use Rattle.co_first_exec.specs.declared.instr.Placed.{Placed}
+use Rattle.co_first_exec.specs.declared.instr.Stop.TheVariants.{Running}
+use Rattle.co_first_exec.specs.declared.local.Local.{Local}
+use Rattle.co_first_exec.specs.declared.turn.Due.TheVariants.{OutOfBudget, Meets, Does}
+use Rattle.co_first_exec.specs.declared.turn.Computed.{Computed}
+use Rattle.co_first_exec.specs.declared.turn.Computed.TheVariants.{Value, Outside, Absent}
+use Rattle.co_first_exec.specs.Machine as machine
+use Rattle.co_first_exec.specs.Machine.{lawful, met, checked, due_running, due_after, computed, settle, branch, taken, turn}
 use Rattle.co_meaning.specs.Meaning.{Purpose, Into, Show, Test, Evaluate, Extend, Give, Next, Failed, Frame, Rest, Again, Config, On, is_long, variable, atom_value, exact, extended, tested, begin}
 use Rattle.co_gen.specs.Code.{placed, op_of, span_of, atom_code, terms_code, sum_code, assign_code, while_code, stmt_code, list_code, row_code, main_end}
 use Rattle.co_gen.proofs.Lists.{rows_code}

@@ -3,13 +3,13 @@ use Rattle.std.specs.Prelude.{◌≡◌, ◌≢◌, ℕ, ◌+◌, ◌*◌, ◌�
 use Rattle.co_base.specs.declared.kinds.Undef.TheVariants.{U5}
 use Rattle.co_base.specs.declared.kinds.Limit.TheVariants.{Prints}
 use Rattle.co_tree.specs.declared.tree.Program.{Program}
-use Rattle.co_exec.specs.declared.instr.Placed.{Placed}
-use Rattle.co_exec.specs.declared.instr.Stop.{Stop}
-use Rattle.co_exec.specs.declared.instr.Stop.TheVariants.{Running, Main, Undefined, Budget, Limit}
-use Rattle.co_exec.specs.declared.local.Local.{Local}
-use Rattle.co_exec.specs.Opening.{opening}
-use Rattle.co_exec.specs.Machine.{turns}
-use Rattle.co_exec.specs.Laws.{KeepsLimits}
+use Rattle.co_first_exec.specs.declared.instr.Placed.{Placed}
+use Rattle.co_first_exec.specs.declared.instr.Stop.{Stop}
+use Rattle.co_first_exec.specs.declared.instr.Stop.TheVariants.{Running, Main, Undefined, Budget, Limit}
+use Rattle.co_first_exec.specs.declared.local.Local.{Local}
+use Rattle.co_first_exec.specs.Opening.{opening}
+use Rattle.co_first_exec.specs.Machine.{turns}
+use Rattle.co_first_exec.specs.Laws.{KeepsLimits}
 use Rattle.co_meaning.specs.Meaning.{Doing, Evaluate, Extend, Give, Next, Ended, Failed, Config, steps, start, doing_of, printed}
 
 -- the program has more to do

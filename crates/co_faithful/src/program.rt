@@ -3,7 +3,7 @@ ghost use Rattle.co_tree.specs.Form.{IsFormed};
 ghost use Rattle.co_faithful.specs.Faithful.{Ran};
 
 use co_base::NoMemory;
-use co_exec::{Local, run};
+use co_first_exec::{Local, run};
 use co_gen::generate;
 use co_tree::Program;
 use std::alloc::Global;

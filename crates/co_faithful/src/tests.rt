@@ -1,5 +1,5 @@
 use crate::run_program;
-use co_exec::Stop;
+use co_first_exec::Stop;
 use co_tree::Program;
 use sqlite_items::Items;
 use std::test::Fail;

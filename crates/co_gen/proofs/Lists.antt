@@ -3,7 +3,7 @@ use Rattle.std.proofs.Common.{◌≡◌, ℕ, ◌+◌, ◌<◌, List, [], ◌∷
 use Rattle.std.proofs.lemmas.List.{take_more}
 use mathlib.Core.Former.{Count}
 use Rattle.co_base.specs.declared.span.Span.{Span}
-use Rattle.co_exec.specs.declared.instr.Placed.{Placed}
+use Rattle.co_first_exec.specs.declared.instr.Placed.{Placed}
 use Rattle.co_tree.specs.declared.tree.Stmt.{Stmt, While, While', Row_of-Stmt, end_of-Stmt, more_of-Stmt, items-the_row-Stmt, items_hidden-the_row-Stmt-0}
 use Rattle.co_tree.specs.declared.tree.Sum.{Sum}
 use Rattle.co_tree.specs.declared.tree.Term.{Term}

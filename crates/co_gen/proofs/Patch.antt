@@ -3,8 +3,8 @@ use Rattle.std.proofs.Common.{◌≡◌, ℕ, ◌+◌, List, [], ◌∷◌, ◌+
 use Rattle.std.specs.Prelude.{slice_set}
 use Rattle.std.proofs.Math.Seq.{set-append_seam}
 use Rattle.co_base.specs.declared.span.Span.{Span}
-use Rattle.co_exec.specs.declared.instr.Instr.TheVariants.{Jump, JumpZ}
-use Rattle.co_exec.specs.declared.instr.Placed.{Placed}
+use Rattle.co_first_exec.specs.declared.instr.Instr.TheVariants.{Jump, JumpZ}
+use Rattle.co_first_exec.specs.declared.instr.Placed.{Placed}
 use Rattle.co_tree.specs.declared.tree.Stmt.{Stmt, While}
 use Rattle.co_tree.specs.declared.tree.Sum.{Sum}
 use Rattle.co_gen.specs.Code.{placed, span_of, sum_code, while_code, stmt_code, list_code}

@@ -4,10 +4,10 @@ use Rattle.co_base.specs.declared.span.Span.{Span}
 use Rattle.co_base.specs.declared.kinds.Op.{Op}
 use Rattle.co_base.specs.declared.kinds.Op.TheVariants as op
 use Rattle.co_base.specs.declared.kinds.Num.TheVariants as num
-use Rattle.co_exec.specs.declared.instr.Instr.{Instr}
-use Rattle.co_exec.specs.declared.instr.Instr.TheVariants.{Const, Arith, Slot, Load, Store, Push, Pop, Jump, JumpZ, MainRet}
-use Rattle.co_exec.specs.declared.instr.Instr.TheVariants as instr
-use Rattle.co_exec.specs.declared.instr.Placed.{Placed}
+use Rattle.co_first_exec.specs.declared.instr.Instr.{Instr}
+use Rattle.co_first_exec.specs.declared.instr.Instr.TheVariants.{Const, Arith, Slot, Load, Store, Push, Pop, Jump, JumpZ, MainRet}
+use Rattle.co_first_exec.specs.declared.instr.Instr.TheVariants as instr
+use Rattle.co_first_exec.specs.declared.instr.Placed.{Placed}
 use Rattle.co_tree.specs.declared.tree.Program.{Program}
 use Rattle.co_tree.specs.declared.tree.Stmt.{Stmt, Row_of-Stmt, end_of-Stmt, more_of-Stmt}
 use Rattle.co_tree.specs.declared.tree.Stmt.TheVariants.{Declare, Assign, While', Print}

@@ -2,7 +2,7 @@ ghost use Rattle.std.specs.Prelude.{◌≡◌, [], ◌∷◌, ◌++◌, length, 
 ghost use Rattle.co_gen.specs.Code.{placed, op_of, atom_code, term_code, terms_code, sum_code, assign_code, stmt_code, list_code, span_of, code_of};
 
 use co_base::{NoMemory, Num, Op, Span};
-use co_exec::{Image, Instr, Placed};
+use co_first_exec::{Image, Instr, Placed};
 use co_tree::{Atom, Program, Stmt, Sum, SumOp, Term};
 use sqlite_items::Items;
 use std::alloc::Global;

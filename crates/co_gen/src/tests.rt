@@ -1,6 +1,6 @@
 use crate::generate;
 use co_base::{NoMemory, Span};
-use co_exec::{Local, Stop, run};
+use co_first_exec::{Local, Stop, run};
 use co_tree::{Atom, Program, Stmt, Sum, SumOp, Term};
 use sqlite_items::Items;
 use std::alloc::Global;

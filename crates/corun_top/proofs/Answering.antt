@@ -1,5 +1,5 @@
 -- From what was read of a file to what the told file answers, and from a run's state to what is written of it.
-use Rattle.std.proofs.Common.{◌≡◌, ◌≢◌, ℕ, suc, ◌+◌, ◌^◌, ◌<◌, ◌≤◌, List, [], ◌∷◌, length, take, map, refl, sym, ap, subst, ◌∙◌, arith, get_or, inl, inr, ⊎_elim, ℤ, pos}
+use Rattle.std.proofs.Common.{◌≡◌, ℕ, ◌+◌, ◌<◌, ◌≤◌, List, [], ◌∷◌, length, take, map, refl, sym, ap, subst, ◌∙◌, arith, get_or, ⊎_elim, ℤ}
 use Rattle.std.proofs.lemmas.List.{take_all, length-take-le}
 use Rattle.std.proofs.lemmas.Bool.{cases_lt}
 use Rattle.std.specs.Prelude.{Option, Some, None, String, IfSome}
@@ -7,16 +7,15 @@ use Rattle.std.specs.String.{string_bytes}
 use Rattle.std.specs.declared.alloc.Global.{Global}
 use Rattle.co_base.specs.Outside.{HoldsFirst}
 use Rattle.co_base.specs.declared.kinds.Counts.{Counts}
-use Rattle.co_tree.specs.declared.tree.Program.{Program}
 use Rattle.co_parse.specs.Grammar.{IsFile}
-use Rattle.co_exec.specs.declared.instr.Stop.{Stop}
-use Rattle.co_exec.specs.declared.local.Local.{Local}
+use Rattle.co_first_exec.specs.declared.instr.Stop.{Stop}
+use Rattle.co_first_exec.specs.declared.local.Local.{Local}
 use Rattle.corun_top.specs.declared.answer.Answer.{Answer}
 use Rattle.corun_top.specs.declared.answer.Answer.TheVariants.{Ran as RanTo, Says}
 use Rattle.corun_top.specs.declared.end.End.{End}
 use Rattle.corun_top.specs.declared.status.Status.{Status}
 use Rattle.corun_top.specs.declared.status.Status.TheVariants as status
-use Rattle.corun_top.specs.Answers.{Answers, AnswersBytes, HasRun, IsNoFile, file_of, end_of, counts_of, status_of_answer, out_text, err_text}
+use Rattle.corun_top.specs.Answers.{Answers, AnswersBytes, IsNoFile, file_of, end_of, counts_of, status_of_answer, out_text, err_text}
 use Rattle.corun_top.specs.Texts.{count_text, run_text, status_of}
 use Rattle.corun_top.specs.Words.{IsAccepted}
 use Rattle.corun_top.specs.Written.{IsWritten, Tape}

@@ -1,5 +1,5 @@
 -- Where a list of command words is first bad, by what its first words are.
-use Rattle.std.proofs.Common.{◌≡◌, ◌≢◌, ℕ, ◌+◌, ◌<◌, ◌≤◌, List, [], ◌∷◌, ◌++◌, length, take, codes, arith, refl, sym, ap, ◌∙◌, subst}
+use Rattle.std.proofs.Common.{◌≡◌, ℕ, ◌+◌, List, [], ◌∷◌, ◌++◌, length, codes, arith, refl, sym, subst}
 use Rattle.corun_top.specs.Words.{IsFileName, IsAccepted, BeginsAccepted, IsFirstBad}
 
 begins_none : BeginsAccepted []

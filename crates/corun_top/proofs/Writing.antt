@@ -1,9 +1,9 @@
 -- What several writes come to.
-use Rattle.std.proofs.Common.{◌≡◌, ℕ, zero, suc, ◌+◌, ◌<◌, ◌≤◌, List, [], ◌∷◌, ◌++◌, length, take, drop, refl, ap, sym, subst, append_assoc, append-nil, ◌∙◌, arith, length-append, inl, inr, ⊎_elim, get_or}
-use Rattle.std.specs.Prelude.{Option, Some, None, ◌⊎◌, flat_map, ℤ, pos}
-use Rattle.std.proofs.lemmas.List.{take-append-le, take_all, take-append-drop, take_more}
+use Rattle.std.proofs.Common.{◌≡◌, ℕ, suc, ◌+◌, ◌<◌, List, [], ◌∷◌, ◌++◌, length, take, drop, ap, sym, subst, append-nil, ◌∙◌, arith, length-append, get_or}
+use Rattle.std.specs.Prelude.{flat_map, ℤ}
+use Rattle.std.proofs.lemmas.List.{take-append-le, take-append-drop, take_more}
 use Rattle.std.proofs.lemmas.Grind.{flat_map-append}
-use Rattle.co_base.specs.Outside.{HasRisen, Takes, TakesFront}
+use Rattle.co_base.specs.Outside.{HasRisen, Takes}
 use Rattle.co_base.proofs.Taking.{Takes-append}
 use Rattle.corun_top.specs.Written.{Tape, Gained, Broke}
 

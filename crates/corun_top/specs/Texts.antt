@@ -1,5 +1,5 @@
 -- The lines that are written. Each is ended by a newline.
-use Rattle.std.specs.Prelude.{ℕ, ℤ, List, [], ◌∷◌, ◌++◌, codes, decimal, Bool, true, false, flat_map}
+use Rattle.std.specs.Prelude.{ℕ, ℤ, List, [], ◌++◌, codes, decimal, Bool, true, false, flat_map}
 use Rattle.std.specs.Fmt.{signed_decimal}
 use Rattle.co_base.specs.declared.span.Span.{Span}
 use Rattle.co_base.specs.declared.kinds.Undef.{Undef}

@@ -1,5 +1,5 @@
 -- What is written for an answer, and what a failed write leaves.
-use Rattle.std.specs.Prelude.{ℕ, ℤ, ◌≡◌, ◌⊎◌, List, Option}
+use Rattle.std.specs.Prelude.{ℕ, ◌≡◌, ◌⊎◌, List, Option}
 use Rattle.co_base.specs.Outside.{HasRisen, Takes, TakesFront}
 use Rattle.corun_top.specs.declared.status.Status.{Status}
 use Rattle.corun_top.specs.declared.status.Status.TheVariants.{SinkFault}

@@ -2,15 +2,15 @@
 
 ghost use Rattle.std.specs.Prelude.{◌≡◌, ◌≢◌, map};
 ghost use Rattle.std.specs.String.{string_bytes};
-ghost use Rattle.co_exec.specs.declared.instr.Stop.TheVariants.{Running};
+ghost use Rattle.co_first_exec.specs.declared.instr.Stop.TheVariants.{Running};
 ghost use Rattle.corun_top.specs.Answers.{Answers, AnswersBytes, counts_of, end_of};
 
 use crate::end::End;
 use crate::status::{Refusal, Status};
 use crate::words::first_bad;
 use co_base::{Counts, Files, ReadFault, Span, read_all};
-use co_exec::{Local, Stop};
 use co_faithful::run_program;
+use co_first_exec::{Local, Stop};
 use co_parse::{ParseFault, parse};
 use std::alloc::Global;
 

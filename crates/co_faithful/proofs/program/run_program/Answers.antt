@@ -1,5 +1,5 @@
 use Rattle.std.proofs.Common.{ap, ◌∙◌}
-use Rattle.co_exec.specs.Opening.{opening}
+use Rattle.co_first_exec.specs.Opening.{opening}
 use Rattle.co_faithful.proofs.Theorem.{ran}
 use Rattle.co_faithful.proofs.program.run_program.Goals as goal
 

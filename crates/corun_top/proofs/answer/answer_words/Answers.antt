@@ -1,4 +1,4 @@
-use Rattle.std.proofs.Common.{◌≡◌, ◌∙◌, List, ℕ, length, map, ap, sym, arith, rules, subst}
+use Rattle.std.proofs.Common.{◌≡◌, ◌∙◌, List, ℕ, length, map, ap, sym, arith, subst}
 use Rattle.std.specs.String.{string_bytes}
 use Rattle.co_base.specs.Outside.{HoldsFirst}
 use Rattle.corun_top.proofs.Answering.{answers_read, second_word}

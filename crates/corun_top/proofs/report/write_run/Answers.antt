@@ -1,8 +1,7 @@
 use Rattle.std.proofs.lemmas.Result.{on_err_weaker}
-use Rattle.std.proofs.Common.{List, ℕ, subst}
 use Rattle.std.specs.Prelude.{flat_map}
 use Rattle.corun_top.specs.Texts.{print_text}
-use Rattle.corun_top.specs.Written.{Broke, Tape}
+use Rattle.corun_top.specs.Written.{Broke}
 use Rattle.corun_top.proofs.Writing.{broke_second}
 use Rattle.corun_top.proofs.report.write_run.Goals as goal
 

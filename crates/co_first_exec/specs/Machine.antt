@@ -9,18 +9,18 @@ use Rattle.co_base.specs.declared.kinds.Num.{Num}
 use Rattle.co_base.specs.declared.kinds.Num.TheVariants as num
 use Rattle.co_base.specs.declared.kinds.Undef.TheVariants.{U5, U12}
 use Rattle.co_base.specs.declared.kinds.Limit.TheVariants as limit
-use Rattle.co_exec.specs.declared.instr.Instr.{Instr}
-use Rattle.co_exec.specs.declared.instr.Instr.TheVariants.{Const, Arith, Slot, Load, Store, Push, Pop, Jump, JumpZ, Print, MainRet}
-use Rattle.co_exec.specs.declared.instr.Placed.{Placed}
-use Rattle.co_exec.specs.declared.instr.Stop.{Stop}
-use Rattle.co_exec.specs.declared.instr.Stop.TheVariants.{Running, Main, Undefined, Budget, Limit}
-use Rattle.co_exec.specs.declared.local.Local.{Local}
-use Rattle.co_exec.specs.declared.turn.Due.{Due}
-use Rattle.co_exec.specs.declared.turn.Due.TheVariants.{Nothing, OutOfBudget, Meets, Does}
-use Rattle.co_exec.specs.declared.turn.Access.{Access}
-use Rattle.co_exec.specs.declared.turn.Access.TheVariants.{Private, Loads, Stores}
-use Rattle.co_exec.specs.declared.turn.Computed.{Computed}
-use Rattle.co_exec.specs.declared.turn.Computed.TheVariants.{Value, Outside, Absent}
+use Rattle.co_first_exec.specs.declared.instr.Instr.{Instr}
+use Rattle.co_first_exec.specs.declared.instr.Instr.TheVariants.{Const, Arith, Slot, Load, Store, Push, Pop, Jump, JumpZ, Print, MainRet}
+use Rattle.co_first_exec.specs.declared.instr.Placed.{Placed}
+use Rattle.co_first_exec.specs.declared.instr.Stop.{Stop}
+use Rattle.co_first_exec.specs.declared.instr.Stop.TheVariants.{Running, Main, Undefined, Budget, Limit}
+use Rattle.co_first_exec.specs.declared.local.Local.{Local}
+use Rattle.co_first_exec.specs.declared.turn.Due.{Due}
+use Rattle.co_first_exec.specs.declared.turn.Due.TheVariants.{Nothing, OutOfBudget, Meets, Does}
+use Rattle.co_first_exec.specs.declared.turn.Access.{Access}
+use Rattle.co_first_exec.specs.declared.turn.Access.TheVariants.{Private, Loads, Stores}
+use Rattle.co_first_exec.specs.declared.turn.Computed.{Computed}
+use Rattle.co_first_exec.specs.declared.turn.Computed.TheVariants.{Value, Outside, Absent}
 
 -- the act that no code of a program makes: it is undefined, and stands at no place of a file
 abbrev pub unlawful : Stop

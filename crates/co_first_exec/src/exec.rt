@@ -1,8 +1,8 @@
 ghost use Rattle.std.specs.Prelude.{◌≡◌, ◌≢◌, ℕ, ◌+◌, ◌-◌, ◌^◌, ◌<◌, ◌≤◌, length, IsTrue, IsFalse};
 ghost use mir.Val.{to_z, of_z};
 ghost use mir.Syntax.{w64};
-ghost use Rattle.co_exec.specs.declared.instr.Stop.TheVariants.{Running};
-ghost use Rattle.co_exec.specs.Machine as machine;
+ghost use Rattle.co_first_exec.specs.declared.instr.Stop.TheVariants.{Running};
+ghost use Rattle.co_first_exec.specs.Machine as machine;
 
 use crate::instr::{Image, Instr, Placed, Stop};
 use crate::local::Local;

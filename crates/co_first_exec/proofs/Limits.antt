@@ -7,18 +7,18 @@ use mir.Val.{to_z}
 use mir.Syntax.{w64}
 use Rattle.co_base.specs.declared.span.Span.{Span}
 use Rattle.co_base.specs.declared.kinds.Limit.TheVariants as limit
-use Rattle.co_exec.specs.declared.instr.Instr.{Instr}
-use Rattle.co_exec.specs.declared.instr.Instr.TheVariants.{Const, Arith, Slot, Load, Store, Push, Pop, Jump, JumpZ, Print, MainRet}
-use Rattle.co_exec.specs.declared.instr.Placed.{Placed}
-use Rattle.co_exec.specs.declared.instr.Stop.{Stop}
-use Rattle.co_exec.specs.declared.instr.Stop.TheVariants.{Running, Main, Undefined, Budget, Limit}
-use Rattle.co_exec.specs.declared.local.Local.{Local}
-use Rattle.co_exec.specs.declared.turn.Due.TheVariants.{OutOfBudget, Meets, Does}
-use Rattle.co_exec.specs.declared.turn.Computed.{Computed}
-use Rattle.co_exec.specs.declared.turn.Computed.TheVariants.{Value, Outside, Absent}
-use Rattle.co_exec.specs.Opening.{opening}
-use Rattle.co_exec.specs.Machine.{computed, lawful, met, checked, due_running, due_after, settle, branch, act, taken, turn, turns}
-use Rattle.co_exec.specs.Laws.{StopIsFinal, KeepsLimits, LimitsHold}
+use Rattle.co_first_exec.specs.declared.instr.Instr.{Instr}
+use Rattle.co_first_exec.specs.declared.instr.Instr.TheVariants.{Const, Arith, Slot, Load, Store, Push, Pop, Jump, JumpZ, Print, MainRet}
+use Rattle.co_first_exec.specs.declared.instr.Placed.{Placed}
+use Rattle.co_first_exec.specs.declared.instr.Stop.{Stop}
+use Rattle.co_first_exec.specs.declared.instr.Stop.TheVariants.{Running, Main, Undefined, Budget, Limit}
+use Rattle.co_first_exec.specs.declared.local.Local.{Local}
+use Rattle.co_first_exec.specs.declared.turn.Due.TheVariants.{OutOfBudget, Meets, Does}
+use Rattle.co_first_exec.specs.declared.turn.Computed.{Computed}
+use Rattle.co_first_exec.specs.declared.turn.Computed.TheVariants.{Value, Outside, Absent}
+use Rattle.co_first_exec.specs.Opening.{opening}
+use Rattle.co_first_exec.specs.Machine.{computed, lawful, met, checked, due_running, due_after, settle, branch, act, taken, turn, turns}
+use Rattle.co_first_exec.specs.Laws.{StopIsFinal, KeepsLimits, LimitsHold}
 
 stays : (s : Stop) (code : List Placed) (l : Local) → l.stop ≡ s → s ≢ Running → turn code l ≡ l
 stays Running code l e stopped = absurd (stopped refl)

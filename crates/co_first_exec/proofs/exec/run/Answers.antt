@@ -1,6 +1,6 @@
 use Rattle.std.proofs.Common.{suc, ap, ◌∙◌}
-use Rattle.co_exec.specs.Machine.{turn}
-use Rattle.co_exec.proofs.exec.run.Goals as goal
+use Rattle.co_first_exec.specs.Machine.{turn}
+use Rattle.co_first_exec.proofs.exec.run.Goals as goal
 
 pub loop-local-preserved : goal.loop-local-preserved
 loop-local-preserved c =

@@ -1,7 +1,7 @@
 -- The state in which a run begins.
 use Rattle.std.specs.Prelude.{ℕ, [], replicate}
-use Rattle.co_exec.specs.declared.local.Local.{Local}
-use Rattle.co_exec.specs.declared.instr.Stop.TheVariants.{Running}
+use Rattle.co_first_exec.specs.declared.local.Local.{Local}
+use Rattle.co_first_exec.specs.declared.instr.Stop.TheVariants.{Running}
 
 -- how many words a run has: one worker's stack
 unfoldable pub stack_words : ℕ

@@ -1,4 +1,4 @@
-ghost use Rattle.co_exec.specs.Laws.{StopIsFinal, LimitsHold};
+ghost use Rattle.co_first_exec.specs.Laws.{StopIsFinal, LimitsHold};
 
 /// A run that has stopped takes no more turns.
 pub fn stop_is_final()

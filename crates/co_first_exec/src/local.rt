@@ -1,5 +1,5 @@
 ghost use Rattle.std.specs.Prelude.{◌≡◌, IfOk};
-ghost use Rattle.co_exec.specs.Opening.{opening, stack_words};
+ghost use Rattle.co_first_exec.specs.Opening.{opening, stack_words};
 
 use crate::instr::Stop;
 use crate::prints::Prints;

@@ -1,11 +1,11 @@
 -- What holds of every run of the machine.
 use Rattle.std.specs.Prelude.{◌≡◌, ◌≢◌, ℕ, ◌≤◌, List, length}
 use Rattle.co_base.specs.declared.kinds.Limit.TheVariants.{Prints}
-use Rattle.co_exec.specs.declared.instr.Placed.{Placed}
-use Rattle.co_exec.specs.declared.instr.Stop.TheVariants.{Running, Budget, Limit}
-use Rattle.co_exec.specs.declared.local.Local.{Local}
-use Rattle.co_exec.specs.Opening.{opening}
-use Rattle.co_exec.specs.Machine.{turns}
+use Rattle.co_first_exec.specs.declared.instr.Placed.{Placed}
+use Rattle.co_first_exec.specs.declared.instr.Stop.TheVariants.{Running, Budget, Limit}
+use Rattle.co_first_exec.specs.declared.local.Local.{Local}
+use Rattle.co_first_exec.specs.Opening.{opening}
+use Rattle.co_first_exec.specs.Machine.{turns}
 
 -- a stop is an end
 abbrev pub StopIsFinal : Type 0

@@ -1,5 +1,0 @@
-use Rattle.co_exec.proofs.Limits.{limits}
-use Rattle.co_exec.proofs.laws.limits_hold.Goals as goal
-
-pub returns : goal.returns
-returns c = limits
