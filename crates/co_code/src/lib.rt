@@ -1,0 +1,8 @@
+//! The code of a program: instructions, functions with their rows, suspension points, texts and globals.
+#![tactic(auto)]
+
+mod image;
+mod instr;
+
+pub use image::{FuncCode, Image, PointCode, RowCode, RowKind};
+pub use instr::{Instr, Register, ThrownKind};

@@ -1,0 +1,6 @@
+pub mod Values
+pub mod Rows
+pub mod Storage
+pub mod Check
+pub mod Effect
+pub mod Turn

@@ -1,0 +1,20 @@
+//! The machine's meaning: what a worker's state is, the access that its next turn makes, the state after it,
+//! and the run of several workers over common words. Other crates cite these definitions; the code that does it
+//! stands above.
+#![tactic(auto)]
+
+mod due;
+mod limits;
+mod prints;
+mod spare;
+mod stack;
+mod state;
+mod stop;
+
+pub use due::{Due, Found, Woken};
+pub use limits::Limits;
+pub use prints::Prints;
+pub use spare::{Block, Spare};
+pub use stack::Stack;
+pub use state::{Control, Entry, Going, Next, Registers, State, Tally};
+pub use stop::{Looked, Posted, StopKind, Turn};
