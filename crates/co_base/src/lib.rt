@@ -5,13 +5,29 @@
 mod fault;
 mod gate;
 mod ids;
+mod integers;
 mod kinds;
+mod mem_files;
+mod mem_sink;
+mod outside;
 mod span;
+mod std_files;
+mod std_sink;
+#[cfg(test)]
+mod tests;
 mod text;
+mod words;
 
 pub use fault::{Failed, NoMemory};
 pub use gate::{Gate, OpenGate};
 pub use ids::{ClassId, CoroId, FuncId, SlotId, SuspendId};
+pub use integers::arith;
 pub use kinds::{AtomicKind, CatchOf, Counts, Limit, Num, Op, Print, Thrown, Undef};
+pub use mem_files::MemFiles;
+pub use mem_sink::MemSink;
+pub use outside::{Files, ReadFault, Sink, offer_all, read_all};
 pub use span::Span;
+pub use std_files::StdFiles;
+pub use std_sink::StdSink;
 pub use text::Text;
+pub use words::{bits, convert, value};

@@ -1,0 +1,39 @@
+-- Steps of the loops over a file's reads and a sink's writes.
+use Rattle.std.proofs.Common.{◌≡◌, ℕ, zero, suc, ◌+◌, ◌-◌, ◌≤◌, List, [], ◌∷◌, ◌++◌, length, take, drop, refl, ap, subst, append_assoc, ◌∙◌, arith, length-drop, zero-add}
+use Rattle.std.specs.Prelude.{Option, Some, None}
+use Rattle.std.proofs.lemmas.List.{take_all, take-append-le}
+use Rattle.std.proofs.Math.Seq.{take-nil}
+use Rattle.co_base.specs.Outside.{HoldsFirst, Reads, Takes}
+
+pub Takes-append : (a b c : Option (List ℕ)) (xs ys : List ℕ) → Takes a xs b → Takes b ys c → Takes a (xs ++ ys) c
+Takes-append None b c xs ys h k = tt
+Takes-append (Some bytes) b c xs ys h k =
+    let P : Option (List ℕ) → Type 0 = λ o. Takes o ys c in
+    let at_some : Takes (Some (bytes ++ xs)) ys c = subst P h k in
+    at_some ∙ ap (λ (zs : List ℕ). Some zs) (append_assoc bytes xs ys)
+
+pub take-plus : (n m : ℕ) (xs : List ℕ) → take n xs ++ take m (drop n xs) ≡ take (n + m) xs
+take-plus zero m xs = rw zero-add refl
+take-plus (suc n) m [] = let e : suc n + m ≡ suc (n + m) = omega arith in rw (e, take-nil {A = ℕ}) refl
+take-plus (suc n) m (x ∷ xs) = let e : suc n + m ≡ suc (n + m) = omega arith in rw e (ap (λ (ys : List ℕ). x ∷ ys) (take-plus n m xs))
+
+-- the front of the rest of a piece joins the front that was taken before
+pub take-rest : (n m : ℕ) (xs : List ℕ) → take n xs ++ take m (take (length xs - n) (drop n xs)) ≡ take (n + m) xs
+take-rest n m xs =
+    let e : take (length xs - n) (drop n xs) ≡ drop n xs = take_all _ _ (omega (arith, length-drop n xs)) in
+    rw e (take-plus n m xs)
+
+-- one read more joins what was read before
+pub read_more : (now first : List ℕ → Option (List ℕ)) (name : List ℕ) (at n m n' : ℕ) (xs ys into rest : List ℕ)
+    → now ≡ first → HoldsFirst (first name) n xs → Reads (now name) at m into → at ≡ n → m ≤ length into
+    → ys ≡ xs ++ take m (into ++ rest) → n' ≡ n + m → HoldsFirst (first name) n' ys
+read_more now first name at n m n' xs ys into rest same before read at_end within joined count =
+    let P : (List ℕ → Option (List ℕ)) → Type 0 = λ f. Reads (f name) at m into in
+    rw count (joins (first name) n m xs ys into rest before (rw (← at_end) (subst P same read)) within joined)
+  where
+    joins : (told : Option (List ℕ)) (n m : ℕ) (xs ys into rest : List ℕ) → HoldsFirst told n xs → Reads told n m into
+        → m ≤ length into → ys ≡ xs ++ take m (into ++ rest) → HoldsFirst told (n + m) ys
+    joins None n m xs ys into rest before read within joined = tt
+    joins (Some file) n m xs ys into rest before read within joined =
+        let front : take m (into ++ rest) ≡ take m into = take-append-le m into rest within in
+        rw (joined, front, read.0, before) (take-plus n m file)
