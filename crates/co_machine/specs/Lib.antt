@@ -4,3 +4,4 @@ pub mod Storage
 pub mod Check
 pub mod Effect
 pub mod Turn
+pub mod Core

@@ -1,7 +1,6 @@
 -- Words, registers and places.
 use Rattle.std.specs.Prelude.{ℕ, ◌+◌, ◌-◌, ◌*◌, ◌/◌, ◌%◌, ◌^◌, Bool, true, false, ◌&&◌, nat_lt, nat_le, ◌==◌, if◌then◌else◌, List, Option, Some, None, ℤ, slice_get}
-use mir.Val.{to_z}
-use mir.Syntax.{w64}
+use Rattle.co_base.specs.Integers.{held_by}
 use Rattle.co_base.specs.declared.span.Span.{Span}
 use Rattle.co_base.specs.declared.kinds.AtomicKind.{AtomicKind}
 use Rattle.co_base.specs.declared.kinds.AtomicKind.TheVariants as atomic
@@ -82,10 +81,10 @@ exception (kind.Class of) r = record { a = of.0 + 4; b = r.a; c = r.b; d = r.c }
 abbrev pub thrown_of : Registers → Thrown
 thrown_of v =
     if v.a == 0 then thrown.None else
-    (if v.a == 1 then thrown.Int (to_z w64 v.b) else
-    (if v.a == 2 then thrown.Long (to_z w64 v.b) else
+    (if v.a == 1 then thrown.Int (held_by v.b) else
+    (if v.a == 2 then thrown.Long (held_by v.b) else
     (if v.a == 3 then thrown.Bool (nat_lt 0 v.b) else
-    thrown.Class (record { 0 = (v.a - 4) % 2 ^ 32 }) (to_z w64 v.b) (to_z w64 v.c) (to_z w64 v.d))))
+    thrown.Class (record { 0 = (v.a - 4) % 2 ^ 32 }) (held_by v.b) (held_by v.c) (held_by v.d))))
 
 -- whether a handler catches the exception
 abbrev pub catches : CatchOf → Registers → Bool

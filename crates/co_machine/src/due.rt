@@ -33,6 +33,10 @@ pub enum Due {
     Reuse(u64, u64),
     /// The instruction.
     Do(Instr),
+    /// The call of a function with this entry, whose frame has so many words.
+    Call(u32, u32),
+    /// The suspension that stores this state word.
+    Park(u64),
 }
 
 /// A row and its number among its function's rows.
