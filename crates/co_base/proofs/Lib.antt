@@ -1,2 +1,4 @@
+pub mod Closed
+pub mod Ranges
 pub mod Shifts
 pub mod Taking

@@ -1,7 +1,7 @@
 -- Steps of the loops over a file's reads and a sink's writes.
-use Rattle.std.proofs.Common.{◌≡◌, ℕ, zero, suc, ◌+◌, ◌-◌, ◌≤◌, List, [], ◌∷◌, ◌++◌, length, take, drop, refl, ap, subst, append_assoc, ◌∙◌, arith, length-drop, zero-add}
+use Rattle.std.proofs.Common.{◌≡◌, ℕ, zero, suc, ◌+◌, ◌-◌, ◌≤◌, List, [], ◌∷◌, ◌++◌, length, take, drop, refl, ap, subst, append_assoc, ◌∙◌, arith, length-append, length-drop, zero-add}
 use Rattle.std.specs.Prelude.{Option, Some, None}
-use Rattle.std.proofs.lemmas.List.{take_all, take-append-le}
+use Rattle.std.proofs.lemmas.List.{length-take-le, take_all, take-append-le}
 use Rattle.std.proofs.Math.Seq.{take-nil}
 use Rattle.co_base.specs.Outside.{HoldsFirst, Reads, Takes}
 
@@ -22,6 +22,9 @@ pub take-rest : (n m : ℕ) (xs : List ℕ) → take n xs ++ take m (take (lengt
 take-rest n m xs =
     let e : take (length xs - n) (drop n xs) ≡ drop n xs = take_all _ _ (omega (arith, length-drop n xs)) in
     rw e (take-plus n m xs)
+
+pub length-front : (m : ℕ) (xs ys : List ℕ) → m ≤ length xs → length (take m (xs ++ ys)) ≡ m
+length-front m xs ys h = length-take-le m (xs ++ ys) (omega (arith, h, length-append xs ys))
 
 -- one read more joins what was read before
 pub read_more : (now first : List ℕ → Option (List ℕ)) (name : List ℕ) (at n m n' : ℕ) (xs ys into rest : List ℕ)

@@ -1,4 +1,4 @@
-ghost use Rattle.std.specs.Prelude.{◌≡◌, ◌≢◌, pos, ◌≤ℤ◌, ◌<ℤ◌, Some, ◌^◌, ◌<◌};
+ghost use Rattle.std.specs.Prelude.{◌≡◌, ◌≢◌, pos, ◌≤ℤ◌, ◌<ℤ◌, Some, ◌^◌, ◌<◌, ◌↔◌, IsTrue};
 ghost use Rattle.std.specs.Option.{option_map};
 ghost use Rattle.std.specs.Ordering.{int_eq};
 ghost use Rattle.std.specs.Int.RustNames.{int_lt, int_le};
@@ -33,6 +33,18 @@ pub fn arith(op: Op, num: Num, a: i64, b: i64) -> Option<i64>
         Op::Ge => Some(i64::from(is_at_most(num, b, a))),
         Op::Eq => Some(i64::from(is_equal(num, a, b))),
         Op::Ne => Some(i64::from(!is_equal(num, a, b))),
+    }
+}
+
+/// Whether an i64 holds a value of the type: of the i64s, two hold a `bool`, those in its range an
+/// `int`, and each holds a `long` and, by its bits, a `std::size_t`.
+pub fn is_value(num: Num, v: i64) -> bool
+    ensures { IsTrue result ↔ IsValue num v }
+{
+    match num {
+        Num::Bool => v == 0 || v == 1,
+        Num::Int => i64::from(i32::MIN) <= v && v <= i64::from(i32::MAX),
+        Num::Long | Num::Size => true,
     }
 }
 
@@ -136,7 +148,11 @@ fn count_of(num: Num, k: i64) -> Option<u32>
         Num::Int => 32,
         Num::Long | Num::Size => 64,
     };
-    if 0 <= k && k < width { Some(k as u32) } else { None }
+    if 0 <= k && k < width {
+        Some(k as u32)
+    } else {
+        None
+    }
 }
 
 fn shift_left(num: Num, a: i64, k: i64) -> Option<i64>
