@@ -12,6 +12,7 @@ use Rattle.co_base.specs.declared.kinds.Thrown.TheVariants as thrown
 use Rattle.co_base.specs.declared.kinds.Undef.{Undef}
 use Rattle.co_base.specs.declared.kinds.Undef.TheVariants.{U1, U2, U3, U5, U11, U12}
 use Rattle.co_base.specs.declared.span.Span.{Span}
+use Rattle.co_code.specs.declared.image.FuncCode.{FuncCode}
 use Rattle.co_code.specs.declared.image.Image.{Image}
 use Rattle.co_code.specs.declared.image.PointCode.{PointCode}
 use Rattle.co_code.specs.declared.instr.Instr.{Instr}
@@ -195,16 +196,23 @@ newest_or_null [] = record { a = 0; b = 0; c = 0; d = 0 }
 newest_or_null (v ∷ handled) = v
 
 -- `throw;` throws the newest handled exception again, and terminates where none is handled
-abbrev pub rethrown : List Registers → Image → Span → Control → Control
-rethrown [] image at k = met (stop.Uncaught thrown.None) k
-rethrown (v ∷ handled) image at k = begun (Exception v) image.funcs at k
+abbrev pub rethrown : List Registers → List FuncCode → Span → Control → Control
+rethrown [] funcs at k = met (stop.Uncaught thrown.None) k
+rethrown (v ∷ handled) funcs at k = begun (Exception v) funcs at k
 
-abbrev pub caught : Going → Span → Control → Control
-caught (Exception v) at k =
+abbrev pub handling : Registers → Control → Control
+handling v k =
     if nat_lt (length k.handled) 1024
     then record k { registers = v; handled = v ∷ k.handled; top = record k.top { going = Nothing }; pc = k.pc + 1 }
     else met (stop.Limit limit.Handled) k
+
+-- a handler takes over the exception that is under way
+abbrev pub caught : Going → Span → Control → Control
+caught (Exception v) at k = handling v k
 caught way at k = met (stop.Undefined U12 at) k
+
+abbrev pub terminated : Control → Control
+terminated k = met (stop.Uncaught (thrown_of (newest_or_null k.handled))) k
 
 abbrev pub uncaught_again : List Registers → Span → Control → Control
 uncaught_again [] at k = met (stop.Undefined U12 at) k
@@ -327,13 +335,13 @@ effect_of image inputs limits at (op.JumpZ place) k old = if k.registers.a == 0 
 effect_of image inputs limits at op.Ret k old = returned k
 effect_of image inputs limits at op.MainRet k old = main_returned k
 effect_of image inputs limits at (op.Throw kind) k old = begun (Exception (exception kind k.registers)) image.funcs at k
-effect_of image inputs limits at op.Rethrow k old = rethrown k.handled image at k
+effect_of image inputs limits at op.Rethrow k old = rethrown k.handled image.funcs at k
 effect_of image inputs limits at op.Unwind k old = searched k.top.going image.funcs at k
 effect_of image inputs limits at op.Catch k old = caught k.top.going at k
 effect_of image inputs limits at op.Uncatch k old = uncaught_again k.handled at k
 effect_of image inputs limits at op.Current k old = set_registers (newest_or_null k.handled) k
 effect_of image inputs limits at op.RePtr k old = begun (Exception k.registers) image.funcs at k
-effect_of image inputs limits at op.Terminate k old = met (stop.Uncaught (thrown_of (newest_or_null k.handled))) k
+effect_of image inputs limits at op.Terminate k old = terminated k
 effect_of image inputs limits at op.Take k old = taken_from old limits k
 effect_of image inputs limits at op.Give k old = given_back old limits at k
 effect_of image inputs limits at op.Number k old = set_a old k

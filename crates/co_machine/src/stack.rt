@@ -1,4 +1,4 @@
-ghost use Rattle.std.specs.Prelude.{◌≡◌, [], ◌∷◌, ◌<◌, length, IfOk, MatchOption};
+ghost use Rattle.std.specs.Prelude.{◌≡◌, [], ◌∷◌, ◌<◌, length, slice_get, IfOk, MatchOption};
 
 use co_base::NoMemory;
 use std::alloc::Global;
@@ -54,5 +54,21 @@ impl<T: Drop> Stack<T> {
         ensures { MatchOption result ((self.old ≡ []) × (self.new ≡ [])) (λ newest. self.old ≡ newest ∷ self.new) }
     {
         self.items.pop()
+    }
+
+    /// No thing is left.
+    pub fn clear(&mut self)
+        ensures { self.new ≡ [] }
+    {
+        self.items.clear();
+    }
+}
+
+impl<T: Copy> Stack<T> {
+    /// The newest.
+    pub fn newest(&self) -> Option<T>
+        ensures { result ≡ slice_get self.now 0 }
+    {
+        self.items.last().copied()
     }
 }
