@@ -1,13 +1,12 @@
-// A library with one function.
+//! One turn of a worker: at most one access to the words, and the worker's state after it.
 #![tactic(auto)]
 
-ghost use Rattle.std.specs.Prelude.{◌≡◌};
-ghost use Rattle.co_exec.specs.Echo.{echo_of};
+mod due;
+mod effect;
+mod exec;
+mod local;
+mod tally;
 
-// The `ensures` clause is the contract: what `echo` returns is `echo_of` of its argument, a definition
-// in `specs/Echo.antt`, which a caller's clause can cite too.
-pub fn echo(x: usize) -> usize
-    ensures { result ≡ echo_of x }
-{
-    x
-}
+pub use co_machine::{Limits, Looked, Posted, StopKind, Turn};
+pub use exec::{exec_one, look, post};
+pub use local::Local;

@@ -26,3 +26,25 @@ pub fn take_from(old: u64, limits: Limits, k: &mut Control)
         meet(StopKind::Limit(Limit::Store), k);
     }
 }
+
+/// A spare block of that size is used again.
+pub fn reuse(size: u64, place: u64, k: &mut Control)
+    requires { k.old.pc < 4294967295 }
+    ensures { k.new ≡ effect.reused size place k.old }
+{
+    k.spare.remove(size);
+    set_block(size, place.saturating_sub(1), k);
+}
+
+/// The block at a goes back, of the size that its size word told.
+pub fn give_back(old: u64, limits: Limits, at: Span, k: &mut Control)
+    requires { k.old.pc < 4294967295 }
+    ensures { k.new ≡ effect.given_back old limits at k.old }
+{
+    if 0 < old && old <= limits.words {
+        k.spare.give(Block { size: old, place: k.registers.a });
+        k.pc += 1;
+    } else {
+        meet(StopKind::Undefined(Undef::U11, at), k);
+    }
+}

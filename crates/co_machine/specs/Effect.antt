@@ -1,6 +1,7 @@
 -- The access of a turn, and what the turn leaves of the worker's registers, entries and lists.
 use Rattle.std.specs.Prelude.{ℕ, ◌+◌, ◌-◌, ◌*◌, ◌/◌, ◌%◌, ◌^◌, Bool, true, false, not, ◌&&◌, nat_lt, nat_le, ◌==◌, if◌then◌else◌, List, [], ◌∷◌, ◌++◌, length, Option, Some, None, ℤ, pos, slice_get}
 use Rattle.co_base.specs.Integers.{arith_of, convert_of, held_by, word_of}
+use Rattle.co_base.specs.declared.kinds.AtomicKind.{AtomicKind}
 use Rattle.co_base.specs.declared.kinds.Limit.TheVariants as limit
 use Rattle.co_base.specs.declared.kinds.Num.{Num}
 use Rattle.co_base.specs.declared.kinds.Num.TheVariants as num
@@ -17,6 +18,7 @@ use Rattle.co_code.specs.declared.image.Image.{Image}
 use Rattle.co_code.specs.declared.image.PointCode.{PointCode}
 use Rattle.co_code.specs.declared.instr.Instr.{Instr}
 use Rattle.co_code.specs.declared.instr.Instr.TheVariants as op
+use Rattle.co_code.specs.declared.instr.Register.{Register}
 use Rattle.co_machine.specs.declared.due.Due.{Due}
 use Rattle.co_machine.specs.declared.due.Due.TheVariants as act
 use Rattle.co_machine.specs.declared.due.Woken.{Woken}
@@ -101,8 +103,25 @@ set_a n k = record k { registers = record k.registers { a = n }; pc = k.pc + 1 }
 abbrev pub set_registers : Registers → Control → Control
 set_registers r k = record k { registers = r; pc = k.pc + 1 }
 
+abbrev pub set_b : ℕ → Control → Control
+set_b n k = record k { registers = record k.registers { b = n }; pc = k.pc + 1 }
+
+abbrev pub moved : Register → Register → Control → Control
+moved to from k = set_registers (with_register to (register from k.registers) k.registers) k
+
+abbrev pub popped : Register → Control → ℕ → Control
+popped to k old = record k { registers = with_register to old k.registers; sp = k.sp - 1; pc = k.pc + 1 }
+
 abbrev pub jumped : ℕ → Control → Control
 jumped place k = record k { pc = place }
+
+abbrev pub branched : ℕ → Control → Control
+branched place k = if k.registers.a == 0 then jumped place k else onward k
+
+-- a compare_exchange tells whether it found what was expected, and what it found
+abbrev pub exchanged : AtomicKind → Control → ℕ → Control
+exchanged kind k old =
+    set_registers (record k.registers { a = if old == packed kind k.registers.c then 1 else 0; c = unpacked kind old }) k
 
 -- ---- integers
 
@@ -228,6 +247,10 @@ abbrev pub taken_from : ℕ → Limits → Control → Control
 taken_from old limits k =
     if nat_le (old + (asked k + 1)) limits.words then set_block (asked k) old k else met (stop.Limit limit.Store) k
 
+-- a spare block of that size is used again
+abbrev pub reused : ℕ → ℕ → Control → Control
+reused size place k = set_block size (place - 1) (record k { spare = without size k.spare })
+
 -- the block of the size that its size word told
 abbrev pub given_back : ℕ → Limits → Span → Control → Control
 given_back old limits at k =
@@ -252,6 +275,11 @@ woken points destroys word =
 abbrev pub resumed : Woken → ℕ → ℕ → ℕ → Span → Control → Control
 resumed (At place) back handle word at k = jumped place (entered back handle (serial_in word) k)
 resumed (Not u) back handle word at k = met (stop.Undefined u at) k
+
+-- the resume of a taken handle has no caller and no place in the file
+abbrev pub taken_resumed : Image → ℕ → Control → ℕ → Control
+taken_resumed image handle k old =
+    resumed (woken image.points false old) pool handle old nowhere (record k { taken = 0; next = ahead.Instruction })
 
 -- the frame at the handle goes on in the place of the parked entry
 abbrev pub transferred : Woken → ℕ → ℕ → Span → Control → Control
@@ -309,6 +337,13 @@ after_look (looked.Found handle) k = record k { taken = handle; next = ahead.Tak
 after_look looked.Next k = k
 after_look looked.Empty k = record k { next = ahead.LookStop }
 
+-- the load of word 2: another word than 0 is a stop of another worker
+abbrev pub stop_loaded : Control → ℕ → Control
+stop_loaded k old = if old == 0 then k else record k { next = ahead.Seen }
+
+abbrev pub stop_looked : Control → ℕ → Control
+stop_looked k old = record k { next = if old == 0 then ahead.LookMain else ahead.Seen }
+
 -- ---- prints
 
 abbrev pub printed : ℕ → Print → Control → Control
@@ -319,7 +354,7 @@ printed stamp what k = record k { prints = k.prints ++ (stamp, what) ∷ []; pc 
 -- an instruction, whose access found the word old; `at` is its place in the file
 abbrev pub effect_of : Image → List ℤ → Limits → Span → Instr → Control → ℕ → Control
 effect_of image inputs limits at (op.Const v) k old = set_a (word_of v) k
-effect_of image inputs limits at (op.Move r s) k old = set_registers (with_register r (register s k.registers) k.registers) k
+effect_of image inputs limits at (op.Move to from) k old = moved to from k
 effect_of image inputs limits at (op.Convert num) k old = set_a (converted_word num k.registers.a) k
 effect_of image inputs limits at (op.Arith operator num) k old = computing operator num at k
 effect_of image inputs limits at (op.Slot n) k old = set_a (wrap (k.fp + n)) k
@@ -328,10 +363,10 @@ effect_of image inputs limits at (op.Field n) k old = set_a (wrap (k.registers.a
 effect_of image inputs limits at (op.Load num) k old = set_a (converted_word num old) k
 effect_of image inputs limits at (op.Store num) k old = onward k
 effect_of image inputs limits at op.Push k old = record k { sp = k.sp + 1; pc = k.pc + 1 }
-effect_of image inputs limits at (op.Pop r) k old = record k { registers = with_register r old k.registers; sp = k.sp - 1; pc = k.pc + 1 }
+effect_of image inputs limits at (op.Pop to) k old = popped to k old
 effect_of image inputs limits at (op.Drop n) k old = record k { sp = k.sp - n; pc = k.pc + 1 }
 effect_of image inputs limits at (op.Jump place) k old = jumped place k
-effect_of image inputs limits at (op.JumpZ place) k old = if k.registers.a == 0 then jumped place k else onward k
+effect_of image inputs limits at (op.JumpZ place) k old = branched place k
 effect_of image inputs limits at op.Ret k old = returned k
 effect_of image inputs limits at op.MainRet k old = main_returned k
 effect_of image inputs limits at (op.Throw kind) k old = begun (Exception (exception kind k.registers)) image.funcs at k
@@ -358,13 +393,12 @@ effect_of image inputs limits at (op.ALoad t) k old = set_a (unpacked t old) k
 effect_of image inputs limits at (op.AStore t) k old = onward k
 effect_of image inputs limits at (op.ASwap t) k old = set_a (unpacked t old) k
 effect_of image inputs limits at (op.AAdd t) k old = set_a (unpacked t old) k
-effect_of image inputs limits at (op.ACas t) k old =
-    set_registers (record k.registers { a = if old == packed t k.registers.c then 1 else 0; c = unpacked t old }) k
+effect_of image inputs limits at (op.ACas t) k old = exchanged t k old
 effect_of image inputs limits at op.Print k old = printed old (print.Num (held_by k.registers.a)) k
 effect_of image inputs limits at (op.Lit n) k old = printed old (print.Lit n) k
 effect_of image inputs limits at op.Input k old = set_a (word_of (or_zero (slice_get inputs k.registers.a))) k
 effect_of image inputs limits at op.Inputs k old = set_a (length inputs) k
-effect_of image inputs limits at (op.AtSlot n) k old = set_registers (record k.registers { b = wrap (k.fp + n) }) k
+effect_of image inputs limits at (op.AtSlot n) k old = set_b (wrap (k.fp + n)) k
 effect_of image inputs limits at (op.Top n) k old = set_a (k.sp - n) k
 effect_of image inputs limits at (op.Raise n) k old = record k { sp = k.sp + n; pc = k.pc + 1 }
 effect_of image inputs limits at op.ResultAt k old = set_a k.top.result k
@@ -377,18 +411,16 @@ abbrev pub effect : Image → List ℤ → Limits → Due → Control → ℕ �
 effect image inputs limits act.Rest k old = k
 effect image inputs limits (act.Stamp kind) k old = record k { next = ahead.Halt old kind }
 effect image inputs limits (act.Halt stamp kind) k old = record k { next = ahead.Stopped stamp kind }
-effect image inputs limits act.LoadStop k old = if old == 0 then k else record k { next = ahead.Seen }
-effect image inputs limits act.LookStop k old = record k { next = if old == 0 then ahead.LookMain else ahead.Seen }
+effect image inputs limits act.LoadStop k old = stop_loaded k old
+effect image inputs limits act.LookStop k old = stop_looked k old
 effect image inputs limits act.LookMain k old = record k { seen_main = old; zeros = 0; next = ahead.LookCell }
 effect image inputs limits act.LookCell k old = after_look (look_answer old k) (look_cell_seen old k)
 effect image inputs limits act.Spent k old = met stop.Budget k
 effect image inputs limits (act.Meet kind) k old = met kind k
 effect image inputs limits act.PassTaken k old = record k { taken = 0; next = ahead.LookStop }
-effect image inputs limits (act.ResumeTaken handle) k old =
-    resumed (woken image.points false old) pool handle old nowhere (record k { taken = 0; next = ahead.Instruction })
+effect image inputs limits (act.ResumeTaken handle) k old = taken_resumed image handle k old
 effect image inputs limits act.Pass k old = onward k
-effect image inputs limits (act.Reuse size place) k old =
-    record k { registers = record k.registers { a = size; b = place - 1 }; spare = without size k.spare; pc = k.pc + 1 }
+effect image inputs limits (act.Reuse size place) k old = reused size place k
 effect image inputs limits (act.Call entry words) k old = called entry words k
 effect image inputs limits (act.Park word) k old = parked_with word k
 effect image inputs limits (act.Do i) k old = effect_of image inputs limits (span_at image k.pc) i k old

@@ -17,6 +17,11 @@ abbrev pub IsWithin : Option Access → ℕ → Type 0
 IsWithin None size = Unit {0}
 IsWithin (Some a) size = (1 ≤ place a) × (place a < size)
 
+-- the access, where there is one, is to this word
+abbrev pub IsTo : Option Access → ℕ → Type 0
+IsTo None to = Unit {0}
+IsTo (Some a) to = place a ≡ to
+
 -- what the instruction adds to, or to which list it adds, has room
 abbrev pub HasRoom : Instr → Control → Type 0
 HasRoom op.Push k = k.sp + 1 < 2 ^ 64
@@ -61,3 +66,13 @@ pub record IsSteady (limits : Limits) (t : Tally) : Type 0 where
   pub frames_ended : t.frames_ended ≤ t.instructions
   pub born : t.born ≤ t.instructions
   pub died : t.died ≤ t.instructions
+
+-- the limits lie in their ranges
+abbrev pub IsInRange : Limits → Type 0
+IsInRange limits =
+    (2097152 ≤ limits.words) × (limits.words ≤ 16777216) × (1 ≤ limits.workers) × (limits.workers ≤ 64) × (1 ≤ limits.budget) × (limits.budget ≤ 1099511627776)
+
+-- what an access makes of words that are told by `gives`, or nothing where there is none
+abbrev pub MakesBy : {W : Type 0} → (W → Access → ℕ → W → Type 0) → W → Option Access → ℕ → W → Type 0
+MakesBy gives before None old now = (old ≡ 0) × (now ≡ before)
+MakesBy gives before (Some a) old now = gives before a old now

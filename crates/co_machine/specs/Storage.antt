@@ -1,34 +1,51 @@
 -- Spare blocks.
-use Rattle.std.specs.Prelude.{ℕ, ◌+◌, Bool, true, false, nat_lt, ◌==◌, if◌then◌else◌, min, List, [], ◌∷◌, length, Option, Some, None}
+use Rattle.std.specs.Prelude.{ℕ, ◌+◌, Bool, true, false, nat_lt, ◌==◌, if◌then◌else◌, min, List, [], ◌∷◌, length, Option, Some, None, slice_get}
+use Rattle.std.specs.List.{insert, remove}
 use Rattle.co_machine.specs.declared.spare.Block.{Block}
 
-abbrev pub or_else : Option ℕ → Option ℕ → Option ℕ
-or_else (Some n) other = Some n
-or_else None other = other
+-- the number of an item, one further in a longer list; else that of the first, if it is one
+abbrev pub later_or_here : Option ℕ → Bool → Option ℕ
+later_or_here (Some n) here = Some (n + 1)
+later_or_here None true = Some 0
+later_or_here None false = None
 
--- the place of the newest spare block of that size: the last in the list
+-- the number of the last block of that size, which is the newest
+abbrev pub last_of : ℕ → List Block → Option ℕ
+last_of size [] = None
+last_of size (b ∷ blocks) = later_or_here (last_of size blocks) (b.size == size)
+
+abbrev pub place_in : Option Block → Option ℕ
+place_in (Some b) = Some b.place
+place_in None = None
+
+abbrev pub place_at : Option ℕ → List Block → Option ℕ
+place_at (Some n) blocks = place_in (slice_get blocks n)
+place_at None blocks = None
+
+-- the place of the newest spare block of that size
 abbrev pub newest_of : ℕ → List Block → Option ℕ
-newest_of size [] = None
-newest_of size (b ∷ blocks) = or_else (newest_of size blocks) (if b.size == size then Some b.place else None)
+newest_of size blocks = place_at (last_of size blocks) blocks
 
-abbrev pub dropped_or : Option ℕ → Bool → Block → List Block → List Block → List Block
-dropped_or (Some n) here b rest less = b ∷ less
-dropped_or None true b rest less = rest
-dropped_or None false b rest less = b ∷ rest
+abbrev pub without_at : Option ℕ → List Block → List Block
+without_at (Some n) blocks = remove blocks n
+without_at None blocks = blocks
 
 -- the list without that block
 abbrev pub without : ℕ → List Block → List Block
-without size [] = []
-without size (b ∷ blocks) = dropped_or (newest_of size blocks) (b.size == size) b blocks (without size blocks)
+without size blocks = without_at (last_of size blocks) blocks
 
 -- blocks of more than 1,024 words stand together
 abbrev pub group : ℕ → ℕ
 group size = min size 1025
 
+-- how many blocks stand before those of a greater group
+abbrev pub before_greater : ℕ → List Block → ℕ
+before_greater g [] = 0
+before_greater g (b ∷ blocks) = if nat_lt g (group b.size) then 0 else before_greater g blocks + 1
+
 -- the block joins its group as the newest
 abbrev pub joined : Block → List Block → List Block
-joined b [] = b ∷ []
-joined b (x ∷ blocks) = if nat_lt (group b.size) (group x.size) then b ∷ (x ∷ blocks) else x ∷ joined b blocks
+joined b blocks = insert blocks (before_greater (group b.size) blocks) b
 
 -- a block is given up for good where 4,096 are kept already
 abbrev pub given : Block → List Block → List Block

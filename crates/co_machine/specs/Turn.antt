@@ -1,5 +1,6 @@
 -- One turn of a worker: the access that it makes, the state that it leaves, and what it answers.
 use Rattle.std.specs.Prelude.{ℕ, ◌+◌, ◌*◌, ◌^◌, ◌≡◌, ◌<◌, ◌≤◌, Bool, true, false, ◌&&◌, ◌||◌, nat_lt, nat_le, ◌==◌, min, if◌then◌else◌, List, [], length, Option, Some, None, ℤ, slice_get, slice_index}
+use Rattle.co_base.specs.declared.kinds.Counts.{Counts}
 use Rattle.co_code.specs.declared.image.FuncCode.{FuncCode}
 use Rattle.co_code.specs.declared.image.Image.{Image}
 use Rattle.co_code.specs.declared.instr.Instr.{Instr}
@@ -89,12 +90,15 @@ looked_turn looked.Empty = Idle
 looked_turn (looked.Found handle) = Went
 looked_turn looked.Next = Went
 
+abbrev pub answer_by : Due → Looked → ℕ → Turn
+answer_by act.LoadStop seen old = seen_or_went old
+answer_by act.LookStop seen old = seen_or_went old
+answer_by act.LookCell seen old = looked_turn seen
+answer_by (act.Halt stamp kind) seen old = Stop kind
+answer_by d seen old = Went
+
 abbrev pub answer_of : Due → Control → ℕ → Turn
-answer_of act.LoadStop k old = seen_or_went old
-answer_of act.LookStop k old = seen_or_went old
-answer_of act.LookCell k old = looked_turn (look_answer old k)
-answer_of (act.Halt stamp kind) k old = Stop kind
-answer_of d k old = Went
+answer_of d k old = answer_by d (look_answer old k) old
 
 -- what the turn answers: Idle at the last cell of a look that found nothing, Stop where the worker has stopped
 abbrev pub turn_answer : Image → State → ℕ → Turn
@@ -148,3 +152,28 @@ fresh image limits worker = record {
 -- a worker other than 0 leaves at an Idle whose look found that `main` has returned, or at its 16,384th
 abbrev pub leaves : State → Bool
 leaves s = s.worker == 0 || (s.control.seen_main == 1 || nat_le 16384 s.tally.idles)
+
+-- ---- parts of a state
+
+-- where the next turn is an instruction's, and not the load of word 2 that comes first
+abbrev pub next_place : Next → ℕ → ℕ → Option ℕ
+next_place ahead.Instruction since pc = if nat_lt since 1024 then Some pc else None
+next_place n since pc = None
+
+abbrev pub next_of : State → Option ℕ
+next_of s = next_place s.control.next s.tally.since s.control.pc
+
+-- the stop of a worker that has drawn its stamp
+abbrev pub stop_of : Next → Option (ℕ × StopKind)
+stop_of (ahead.Halt stamp kind) = Some (stamp, kind)
+stop_of (ahead.Stopped stamp kind) = Some (stamp, kind)
+stop_of n = None
+
+abbrev pub counts_of : Tally → Counts
+counts_of t = record {
+  instructions = t.instructions;
+  frames_made = t.frames_made;
+  frames_ended = t.frames_ended;
+  born = t.born;
+  died = t.died;
+}

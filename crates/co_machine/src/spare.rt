@@ -1,4 +1,5 @@
-ghost use Rattle.std.specs.Prelude.{◌≡◌, [], IfOk};
+ghost use Rattle.std.specs.Prelude.{◌≡◌, ◌<◌, ◌≤◌, [], length, IfOk, IfSome};
+ghost use Rattle.co_machine.specs.Storage as storage;
 
 use co_base::NoMemory;
 use std::alloc::Global;
@@ -37,4 +38,72 @@ impl Spare {
         let blocks = Vec::with_capacity(alloc, 4096)?;
         Ok(Spare { blocks })
     }
+
+    /// The place of the newest block of that size.
+    pub fn newest(&self, size: u64) -> Option<u64>
+        ensures { result ≡ storage.newest_of size self.now }
+    {
+        place_at(last_of(self.blocks.as_slice(), size), self.blocks.as_slice())
+    }
+
+    /// The newest block of that size leaves.
+    pub fn remove(&mut self, size: u64)
+        ensures { self.new ≡ storage.without size self.old }
+    {
+        if let Some(n) = last_of(self.blocks.as_slice(), size) {
+            let _ = self.blocks.remove(n);
+        }
+    }
+
+    /// The block joins its group as the newest; it is given up for good where 4,096 are kept already.
+    pub fn give(&mut self, block: Block)
+        ensures { self.new ≡ storage.given block self.old }
+    {
+        if self.blocks.len() < 4096 {
+            let n = before_greater(self.blocks.as_slice(), block.size.min(1025));
+            match self.blocks.insert(n, block) {
+                Ok(()) => {}
+                Err(_) => unreachable!(),
+            }
+        }
+    }
+}
+
+fn place_at(number: Option<usize>, blocks: &[Block]) -> Option<u64>
+    ensures { result ≡ storage.place_at number blocks.now }
+{
+    match number {
+        None => None,
+        Some(n) => match blocks.get(n) {
+            None => None,
+            Some(b) => Some(b.place),
+        },
+    }
+}
+
+// The number of the last block of that size.
+fn last_of(blocks: &[Block], size: u64) -> Option<usize>
+    ensures number { result ≡ storage.last_of size blocks.now }
+    ensures within { IfSome result (λ n. n < length blocks.now) }
+{
+    let mut found = None;
+    for (n, b) in blocks.iter().enumerate() {
+        if b.size == size {
+            found = Some(n);
+        }
+    }
+    found
+}
+
+// How many blocks stand before those of a greater group.
+fn before_greater(blocks: &[Block], group: u64) -> usize
+    ensures number { result ≡ storage.before_greater group blocks.now }
+    ensures within { result ≤ length blocks.now }
+{
+    for (n, b) in blocks.iter().enumerate() {
+        if group < b.size.min(1025) {
+            return n;
+        }
+    }
+    blocks.len()
 }
