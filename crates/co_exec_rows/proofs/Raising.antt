@@ -1,11 +1,11 @@
 -- Where an exception stops at the newest activation.
-use Rattle.std.proofs.Common.{◌≡◌, ℕ, List, [], ◌∷◌, Option, Some, None, refl, sym, ◌∙◌}
+use Rattle.std.proofs.Common.{◌≡◌, List, [], ◌∷◌, Some, None, refl}
 use Rattle.co_code.specs.declared.image.FuncCode.{FuncCode}
 use Rattle.co_machine.specs.declared.due.Found.{Found}
 use Rattle.co_machine.specs.declared.state.Control.{Control}
 use Rattle.co_machine.specs.declared.state.Entry.{Entry}
 use Rattle.co_machine.specs.declared.state.Registers.{Registers}
-use Rattle.co_machine.specs.Rows.{pool, found_for, reached, raised, uncaught}
+use Rattle.co_machine.specs.Rows.{found_for, reached, raised, uncaught}
 
 pub at_row : (funcs : List FuncCode) (v : Registers) (below : List Entry) (k : Control) (f : Found) → found_for funcs k.top ≡ Some f → raised funcs v below k ≡ reached f.row.kind v f k
 at_row funcs v [] k f e = rw e refl

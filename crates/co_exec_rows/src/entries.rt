@@ -11,12 +11,19 @@ use co_machine::{Control, Entry, Going, Next, Registers, StopKind, Woken};
 
 // An entry to which nothing has happened yet.
 fn new_entry(return_to: u32, base: u64, target: u64, serial: u64, k: &Control) -> Entry
-    ensures {
-        result ≡ record {
-            return_to = return_to; return_fp = k.now.fp; return_sp = k.now.sp; base = base; result = target; serial = serial;
-            place = 0; word = 0; going = Going.Nothing; origin = 0; row = 0;
-        }
-    }
+    ensures { result ≡ record {
+      return_to = return_to;
+      return_fp = k.now.fp;
+      return_sp = k.now.sp;
+      base = base;
+      result = target;
+      serial = serial;
+      place = 0;
+      word = 0;
+      going = Going.Nothing;
+      origin = 0;
+      row = 0;
+    } }
 {
     Entry {
         return_to,
@@ -172,7 +179,12 @@ pub fn newest_or_null(k: &Control) -> Registers
     ensures { result ≡ effect.newest_or_null k.now.handled }
 {
     match k.handled.newest() {
-        None => Registers { a: 0, b: 0, c: 0, d: 0 },
+        None => Registers {
+            a: 0,
+            b: 0,
+            c: 0,
+            d: 0,
+        },
         Some(v) => v,
     }
 }

@@ -28,13 +28,7 @@ fn fits_entry(kind: RowKind, parked: bool, word: u64) -> bool
 {
     match kind {
         RowKind::Border => true,
-        RowKind::Cleanup | RowKind::Catch(_) => {
-            if word == 0 {
-                !parked
-            } else {
-                parked
-            }
-        }
+        RowKind::Cleanup | RowKind::Catch(_) => { if word == 0 { !parked } else { parked } }
     }
 }
 
@@ -80,7 +74,10 @@ fn first_row(list: &[RowCode], e: &Entry) -> Option<Found>
 {
     for (number, row) in list.iter().enumerate() {
         if holds_for(e, number as u64, row) {
-            return Some(Found { number: number as u64, row: *row });
+            return Some(Found {
+                number: number as u64,
+                row: *row,
+            });
         }
     }
     None
@@ -124,7 +121,12 @@ fn leave_for(v: Registers, e: Entry, k: &mut Control)
     ensures { k.new ≡ rows.left_for v e k.old.below k.old }
 {
     let from = k.top;
-    k.top = Entry { going: Going::Exception(v), origin: from.return_to.saturating_sub(1), row: 0, ..e };
+    k.top = Entry {
+        going: Going::Exception(v),
+        origin: from.return_to.saturating_sub(1),
+        row: 0,
+        ..e
+    };
     k.fp = from.return_fp;
     k.sp = from.return_sp;
 }

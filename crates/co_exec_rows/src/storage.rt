@@ -42,7 +42,10 @@ pub fn give_back(old: u64, limits: Limits, at: Span, k: &mut Control)
     ensures { k.new ≡ effect.given_back old limits at k.old }
 {
     if 0 < old && old <= limits.words {
-        k.spare.give(Block { size: old, place: k.registers.a });
+        k.spare.give(Block {
+            size: old,
+            place: k.registers.a,
+        });
         k.pc += 1;
     } else {
         meet(StopKind::Undefined(Undef::U11, at), k);

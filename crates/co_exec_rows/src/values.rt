@@ -76,7 +76,11 @@ fn extended(n: u64) -> u64
     requires { n < 4294967296 }
     ensures { result ≡ values.extended n }
 {
-    if n < 1 << 31 { n } else { n + 0xffff_ffff_0000_0000 }
+    if n < 1 << 31 {
+        n
+    } else {
+        n + 0xffff_ffff_0000_0000
+    }
 }
 
 /// The exception of a type, its members in a, b, c.
@@ -87,14 +91,24 @@ pub fn exception(kind: ThrownKind, r: Registers) -> Registers
         ThrownKind::Int => single(1, r),
         ThrownKind::Long => single(2, r),
         ThrownKind::Bool => single(3, r),
-        ThrownKind::Class(ClassId(of)) => Registers { a: of as u64 + 4, b: r.a, c: r.b, d: r.c },
+        ThrownKind::Class(ClassId(of)) => Registers {
+            a: of as u64 + 4,
+            b: r.a,
+            c: r.b,
+            d: r.c,
+        },
     }
 }
 
 fn single(kind: u64, r: Registers) -> Registers
     ensures { result ≡ record { a = kind; b = r.a; c = 0; d = 0 } }
 {
-    Registers { a: kind, b: r.a, c: 0, d: 0 }
+    Registers {
+        a: kind,
+        b: r.a,
+        c: 0,
+        d: 0,
+    }
 }
 
 /// The value that an exception is.

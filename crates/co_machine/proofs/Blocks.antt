@@ -1,8 +1,5 @@
 -- How the searches among the spare blocks go on by one.
-use Rattle.std.proofs.Common.{◌≡◌, ℕ, zero, suc, ◌+◌, ◌<◌, Bool, true, false, List, [], ◌∷◌, length, drop, Option, Some, None, refl, sym, ap, ◌∙◌, arith}
-use Rattle.std.specs.Prelude.{◌==◌, nat_lt, slice_get}
-use Rattle.co_machine.specs.declared.spare.Block.{Block}
-use Rattle.co_machine.specs.Storage.{later_or_here, last_of, group, before_greater}
+use Rattle.std.proofs.Common.{ℕ, ◌+◌, Option, Some, None}
 
 -- the number in a list whose first i blocks were seen, the last such one as found
 abbrev pub seen : ℕ → Option ℕ → Option ℕ → Option ℕ

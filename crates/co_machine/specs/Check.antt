@@ -1,6 +1,5 @@
 -- What is due, every test of its place, its operands and its room made; and the access that it makes.
-use Rattle.std.specs.Prelude.{ℕ, ◌+◌, ◌-◌, ◌*◌, ◌%◌, ◌^◌, ◌≡◌, ◌<◌, ◌≤◌, Bool, true, false, ◌&&◌, nat_lt, nat_le, ◌==◌, if◌then◌else◌, List, length, Option, Some, None, ℤ, pos, slice_get}
-use Rattle.co_base.specs.declared.kinds.Limit.{Limit}
+use Rattle.std.specs.Prelude.{ℕ, ◌-◌, nat_lt, nat_le, ◌==◌, if◌then◌else◌, length, Option, Some, None, pos, slice_get}
 use Rattle.co_base.specs.declared.kinds.Limit.TheVariants as limit
 use Rattle.co_base.specs.declared.kinds.Undef.{Undef}
 use Rattle.co_base.specs.declared.kinds.Undef.TheVariants.{U4, U6, U10, U12}

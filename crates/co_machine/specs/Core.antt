@@ -1,5 +1,5 @@
 -- The run of several workers over common words, in an order; and histories of accesses.
-use Rattle.std.specs.Prelude.{ℕ, zero, suc, ◌+◌, ◌-◌, ◌*◌, ◌≡◌, Bool, true, false, not, ◌&&◌, ◌||◌, ◌==◌, if◌then◌else◌, List, [], ◌∷◌, ◌++◌, length, replicate, Option, Some, None, ℤ, slice_get, slice_set, slice_index}
+use Rattle.std.specs.Prelude.{ℕ, zero, suc, ◌+◌, ◌-◌, ◌≡◌, Bool, true, false, not, ◌&&◌, ◌||◌, ◌==◌, if◌then◌else◌, List, [], ◌∷◌, ◌++◌, length, replicate, Option, Some, None, ℤ, slice_get, slice_set, slice_index}
 use Rattle.co_code.specs.declared.image.Image.{Image}
 use Rattle.co_machine.specs.declared.limits.Limits.{Limits}
 use Rattle.co_machine.specs.declared.state.Next.{Next}

@@ -1,5 +1,5 @@
 -- The access of a turn, and what the turn leaves of the worker's registers, entries and lists.
-use Rattle.std.specs.Prelude.{ℕ, ◌+◌, ◌-◌, ◌*◌, ◌/◌, ◌%◌, ◌^◌, Bool, true, false, not, ◌&&◌, nat_lt, nat_le, ◌==◌, if◌then◌else◌, List, [], ◌∷◌, ◌++◌, length, Option, Some, None, ℤ, pos, slice_get}
+use Rattle.std.specs.Prelude.{ℕ, ◌+◌, ◌-◌, ◌%◌, ◌^◌, Bool, true, false, ◌&&◌, nat_lt, nat_le, ◌==◌, if◌then◌else◌, List, [], ◌∷◌, ◌++◌, length, Option, Some, None, ℤ, pos, slice_get}
 use Rattle.co_base.specs.Integers.{arith_of, convert_of, held_by, word_of}
 use Rattle.co_base.specs.declared.kinds.AtomicKind.{AtomicKind}
 use Rattle.co_base.specs.declared.kinds.Limit.TheVariants as limit
@@ -10,7 +10,6 @@ use Rattle.co_base.specs.declared.kinds.Op.TheVariants as operator
 use Rattle.co_base.specs.declared.kinds.Print.{Print}
 use Rattle.co_base.specs.declared.kinds.Print.TheVariants as print
 use Rattle.co_base.specs.declared.kinds.Thrown.TheVariants as thrown
-use Rattle.co_base.specs.declared.kinds.Undef.{Undef}
 use Rattle.co_base.specs.declared.kinds.Undef.TheVariants.{U1, U2, U3, U5, U11, U12}
 use Rattle.co_base.specs.declared.span.Span.{Span}
 use Rattle.co_code.specs.declared.image.FuncCode.{FuncCode}
@@ -24,7 +23,6 @@ use Rattle.co_machine.specs.declared.due.Due.TheVariants as act
 use Rattle.co_machine.specs.declared.due.Woken.{Woken}
 use Rattle.co_machine.specs.declared.due.Woken.TheVariants.{At, Not}
 use Rattle.co_machine.specs.declared.limits.Limits.{Limits}
-use Rattle.co_machine.specs.declared.spare.Block.{Block}
 use Rattle.co_machine.specs.declared.state.Control.{Control}
 use Rattle.co_machine.specs.declared.state.Entry.{Entry}
 use Rattle.co_machine.specs.declared.state.Going.{Going}
@@ -156,8 +154,17 @@ abbrev pub called : ℕ → ℕ → Control → Control
 called entry words k = record k {
   below = k.top ∷ k.below;
   top = record {
-    return_to = k.pc + 1; return_fp = k.fp; return_sp = k.sp; base = k.sp + words; result = k.registers.d; serial = 0;
-    place = 0; word = 0; going = Nothing; origin = 0; row = 0;
+    return_to = k.pc + 1;
+    return_fp = k.fp;
+    return_sp = k.sp;
+    base = k.sp + words;
+    result = k.registers.d;
+    serial = 0;
+    place = 0;
+    word = 0;
+    going = Nothing;
+    origin = 0;
+    row = 0;
   };
   fp = k.sp;
   sp = k.sp + words;
@@ -169,8 +176,17 @@ abbrev pub entered : ℕ → ℕ → ℕ → Control → Control
 entered back handle serial k = record k {
   below = k.top ∷ k.below;
   top = record {
-    return_to = back; return_fp = k.fp; return_sp = k.sp; base = k.sp; result = 0; serial = serial;
-    place = 0; word = 0; going = Nothing; origin = 0; row = 0;
+    return_to = back;
+    return_fp = k.fp;
+    return_sp = k.sp;
+    base = k.sp;
+    result = 0;
+    serial = serial;
+    place = 0;
+    word = 0;
+    going = Nothing;
+    origin = 0;
+    row = 0;
   };
   fp = handle;
 }
@@ -193,8 +209,17 @@ returned k = returned_to k.below k
 -- the worker's own entry, as it was when the worker began
 abbrev pub base_entry : ℕ → Entry
 base_entry at = record {
-  return_to = pool; return_fp = at; return_sp = at; base = at; result = 0; serial = 0;
-  place = 0; word = 0; going = Nothing; origin = 0; row = 0;
+  return_to = pool;
+  return_fp = at;
+  return_sp = at;
+  base = at;
+  result = 0;
+  serial = 0;
+  place = 0;
+  word = 0;
+  going = Nothing;
+  origin = 0;
+  row = 0;
 }
 
 -- `main` has returned the low 32 bits of a

@@ -5,4 +5,5 @@ pub mod Check
 pub mod Effect
 pub mod Ready
 pub mod Turn
+pub mod Laws
 pub mod Core

@@ -1,12 +1,11 @@
 -- What a turn may rely on that does what is due: its access lies within the words, and what it raises has room.
-use Rattle.std.specs.Prelude.{ℕ, ◌+◌, ◌*◌, ◌^◌, ◌≡◌, ◌<◌, ◌≤◌, length, Option, Some, None}
+use Rattle.std.specs.Prelude.{ℕ, ◌+◌, ◌^◌, ◌≡◌, ◌<◌, ◌≤◌, length, Option, Some, None}
 use Rattle.co_code.specs.declared.instr.Instr.{Instr}
 use Rattle.co_code.specs.declared.instr.Instr.TheVariants as op
 use Rattle.co_machine.specs.declared.due.Due.{Due}
 use Rattle.co_machine.specs.declared.due.Due.TheVariants as act
 use Rattle.co_machine.specs.declared.limits.Limits.{Limits}
 use Rattle.co_machine.specs.declared.state.Control.{Control}
-use Rattle.co_machine.specs.declared.state.State.{State}
 use Rattle.co_machine.specs.declared.state.Tally.{Tally}
 use Rattle.co_words.specs.declared.access.Access.{Access}
 use Rattle.co_words.specs.Words.{place}

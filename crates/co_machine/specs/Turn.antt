@@ -1,5 +1,5 @@
 -- One turn of a worker: the access that it makes, the state that it leaves, and what it answers.
-use Rattle.std.specs.Prelude.{ℕ, ◌+◌, ◌*◌, ◌^◌, ◌≡◌, ◌<◌, ◌≤◌, Bool, true, false, ◌&&◌, ◌||◌, nat_lt, nat_le, ◌==◌, min, if◌then◌else◌, List, [], length, Option, Some, None, ℤ, slice_get, slice_index}
+use Rattle.std.specs.Prelude.{ℕ, ◌+◌, ◌*◌, Bool, ◌||◌, nat_lt, nat_le, ◌==◌, min, if◌then◌else◌, List, [], length, Option, Some, None, ℤ, slice_get}
 use Rattle.co_base.specs.declared.kinds.Counts.{Counts}
 use Rattle.co_code.specs.declared.image.FuncCode.{FuncCode}
 use Rattle.co_code.specs.declared.image.Image.{Image}
@@ -20,8 +20,6 @@ use Rattle.co_machine.specs.declared.stop.StopKind.TheVariants as stop
 use Rattle.co_machine.specs.declared.stop.Turn.{Turn}
 use Rattle.co_machine.specs.declared.stop.Turn.TheVariants.{Went, Idle, Stop}
 use Rattle.co_words.specs.declared.access.Access.{Access}
-use Rattle.co_words.specs.declared.access.Access.TheVariants as access
-use Rattle.co_words.specs.Words.{answer, after, place}
 use Rattle.co_machine.specs.Check.{due_by}
 use Rattle.co_machine.specs.Effect.{ask_due, effect, look_answer, base_entry}
 use Rattle.co_machine.specs.Values.{wrap, first_global}
@@ -121,9 +119,25 @@ words_of None = 0
 
 abbrev pub blank : ℕ → Control
 blank at = record {
-  pc = 0; fp = at; sp = at; registers = record { a = 0; b = 0; c = 0; d = 0 }; stack = at; stack_end = wrap (at + 16384);
-  top = base_entry at; below = []; handled = []; prints = []; spare = [];
-  look = 0; post = 0; tried = 0; taken = 0; zeros = 0; seen_main = 0; main_value = None; next = ahead.LookStop;
+  pc = 0;
+  fp = at;
+  sp = at;
+  registers = record { a = 0; b = 0; c = 0; d = 0 };
+  stack = at;
+  stack_end = wrap (at + 16384);
+  top = base_entry at;
+  below = [];
+  handled = [];
+  prints = [];
+  spare = [];
+  look = 0;
+  post = 0;
+  tried = 0;
+  taken = 0;
+  zeros = 0;
+  seen_main = 0;
+  main_value = None;
+  next = ahead.LookStop;
 }
 
 -- worker 0 begins in `main`
@@ -177,3 +191,9 @@ counts_of t = record {
   born = t.born;
   died = t.died;
 }
+
+-- how many Idles the turn adds
+abbrev pub idled : Turn → ℕ
+idled Went = 0
+idled Idle = 1
+idled (Stop kind) = 0

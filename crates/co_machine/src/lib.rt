@@ -4,6 +4,7 @@
 #![tactic(auto)]
 
 mod due;
+pub mod laws;
 mod limits;
 mod prints;
 mod spare;

@@ -43,7 +43,10 @@ impl Spare {
     pub fn newest(&self, size: u64) -> Option<u64>
         ensures { result ≡ storage.newest_of size self.now }
     {
-        place_at(last_of(self.blocks.as_slice(), size), self.blocks.as_slice())
+        place_at(
+            last_of(self.blocks.as_slice(), size),
+            self.blocks.as_slice(),
+        )
     }
 
     /// The newest block of that size leaves.
