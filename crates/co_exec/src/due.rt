@@ -76,9 +76,7 @@ fn resume_due(limits: Limits, k: &Control, at: Span, instr: Instr) -> Due
     requires place { k.now.pc < 4294967295 }
     requires room { length k.now.below < 1023 → HasRoom instr k.now }
     requires to { IsTo (ask_of instr k.now) k.now.registers.a }
-    ensures meaning {
-        result ≡ check.not_null k.now.registers.a Undef.U4 at (check.unless_noop k.now.registers.a Due.Pass (check.reaching limits k.now.registers.a at (check.entering k.now (Due.Do instr))))
-    }
+    ensures meaning { result ≡ check.not_null k.now.registers.a Undef.U4 at (check.unless_noop k.now.registers.a Due.Pass (check.reaching limits k.now.registers.a at (check.entering k.now (Due.Do instr)))) }
     ensures ready { IsReady result k.now }
     ensures within { IsWithin (ask_due result k.now) limits.words }
 {

@@ -10,7 +10,9 @@ use co_exec_rows::entries;
 use co_exec_rows::integers::{compute, converted_word, input};
 use co_exec_rows::rows::{POOL, begin, search};
 use co_exec_rows::storage::{give_back, reuse, take_from};
-use co_exec_rows::values::{NOWHERE, exception, packed, register, span_at, unpacked, with_register};
+use co_exec_rows::values::{
+    NOWHERE, exception, packed, register, span_at, unpacked, with_register,
+};
 use co_machine::{Control, Due, Going, Limits, Next, StopKind};
 
 /// What is due, whose access found the word `old`.
@@ -124,7 +126,11 @@ fn exchanged(kind: AtomicKind, k: &mut Control, old: u64)
     requires { k.old.pc < 4294967295 }
     ensures { k.new ≡ effect.exchanged kind k.old old }
 {
-    let was = if old == packed(kind, k.registers.c) { 1 } else { 0 };
+    let was = if old == packed(kind, k.registers.c) {
+        1
+    } else {
+        0
+    };
     k.registers.a = was;
     k.registers.c = unpacked(kind, old);
     k.pc += 1;
@@ -148,7 +154,15 @@ fn set_b(n: u64, k: &mut Control)
 }
 
 // One instruction, whose access found the word `old`; `at` is its place in the file.
-fn perform(image: &Image, inputs: &[i64], limits: Limits, at: Span, instr: Instr, k: &mut Control, old: u64)
+fn perform(
+    image: &Image,
+    inputs: &[i64],
+    limits: Limits,
+    at: Span,
+    instr: Instr,
+    k: &mut Control,
+    old: u64,
+)
     requires place { k.old.pc < 4294967295 }
     requires room { HasRoom instr k.old }
     ensures { k.new ≡ effect.effect_of image.now inputs.now limits at instr k.old old }
@@ -176,7 +190,12 @@ fn perform(image: &Image, inputs: &[i64], limits: Limits, at: Span, instr: Instr
         Instr::Ret => entries::go_back(k),
         Instr::MainRet => entries::return_main(k),
         Instr::Throw(kind) => {
-            begin(Going::Exception(exception(kind, k.registers)), image.funcs.as_slice(), at, k)
+            begin(
+                Going::Exception(exception(kind, k.registers)),
+                image.funcs.as_slice(),
+                at,
+                k,
+            )
         }
         Instr::Rethrow => entries::rethrow(image.funcs.as_slice(), at, k),
         Instr::Unwind => search(image.funcs.as_slice(), at, k),
@@ -212,7 +231,12 @@ fn perform(image: &Image, inputs: &[i64], limits: Limits, at: Span, instr: Instr
             k.pc += 1;
         }
         Instr::ResultAt => set_a(k.top.result, k),
-        Instr::Exit(place) => begin(Going::Exit(place, k.registers), image.funcs.as_slice(), at, k),
+        Instr::Exit(place) => begin(
+            Going::Exit(place, k.registers),
+            image.funcs.as_slice(),
+            at,
+            k,
+        ),
         Instr::Begin(place) => begin_body(place, k),
         Instr::Check => go_on(k),
         Instr::CheckNew => go_on(k),

@@ -1,4 +1,4 @@
-ghost use Rattle.std.specs.Prelude.{◌≡◌, ◌<◌, ◌≤◌, ℕ};
+ghost use Rattle.std.specs.Prelude.{◌≡◌, ◌<◌, ◌≤◌, ◌+◌, ℕ};
 ghost use Rattle.co_words.specs.declared.access.Access.{Access};
 ghost use Rattle.co_machine.specs.Effect.{ask_due, ask_of, cell, post_answer, post_cell, post_cell_tried, look_answer as looked_at, look_cell_seen};
 ghost use Rattle.co_machine.specs.Ready.{HasRoom, IsAllowed, IsReady, IsSteady, IsWithin, MakesBy};
@@ -20,10 +20,10 @@ use co_words::{Access, Words};
 pub fn exec_one<W: Words>(image: &Image, inputs: &[i64], local: &mut Local, words: &mut W) -> Turn
     requires size { W.count words.old ≡ local.old.limits.words }
     requires idles { local.old.tally.idles < 4294967296 }
-    ensures turn {
-        (old : ℕ) × MakesBy W.gives words.old (turn.ask image.now local.old) old words.new × (local.new ≡ turn.instr image.now inputs.now local.old old) × (result ≡ turn.turn_answer image.now local.old old)
-    }
+    ensures turn { (old : ℕ) × MakesBy W.gives words.old (turn.ask image.now local.old) old words.new × (local.new ≡ turn.instr image.now inputs.now local.old old) × (result ≡ turn.turn_answer image.now local.old old) }
     ensures size { W.count words.new ≡ W.count words.old }
+    ensures limits { local.new.limits ≡ local.old.limits }
+    ensures idles { local.new.tally.idles ≡ local.old.tally.idles + turn.idled result }
 {
     take_turn(image, inputs, &mut local.state, words)
 }
@@ -32,9 +32,7 @@ pub fn exec_one<W: Words>(image: &Image, inputs: &[i64], local: &mut Local, word
 pub fn post<W: Words>(local: &mut Local, words: &mut W, handle: u64) -> Posted
     requires handle { 1 ≤ handle }
     requires size { 65552 ≤ W.count words.old }
-    ensures turn {
-        (old : ℕ) × W.gives words.old (Access.Cas (cell (post_cell local.old.control)) 0 handle) old words.new × (local.new ≡ record local.old { control = post_cell_tried old local.old.control }) × (result ≡ post_answer old local.old.control)
-    }
+    ensures turn { (old : ℕ) × W.gives words.old (Access.Cas (cell (post_cell local.old.control)) 0 handle) old words.new × (local.new ≡ record local.old { control = post_cell_tried old local.old.control }) × (result ≡ post_answer old local.old.control) }
     ensures size { W.count words.new ≡ W.count words.old }
 {
     let at = 16 + board::post_cell(&local.state.control) as u64;
@@ -45,9 +43,7 @@ pub fn post<W: Words>(local: &mut Local, words: &mut W, handle: u64) -> Posted
 /// A look swaps one cell of the board with 0, the one after the cell that was looked at last.
 pub fn look<W: Words>(local: &mut Local, words: &mut W) -> Looked
     requires { 65552 ≤ W.count words.old }
-    ensures turn {
-        (old : ℕ) × W.gives words.old (Access.Swap (cell local.old.control.look) 0) old words.new × (local.new ≡ record local.old { control = look_cell_seen old local.old.control }) × (result ≡ looked_at old local.old.control)
-    }
+    ensures turn { (old : ℕ) × W.gives words.old (Access.Swap (cell local.old.control.look) 0) old words.new × (local.new ≡ record local.old { control = look_cell_seen old local.old.control }) × (result ≡ looked_at old local.old.control) }
     ensures size { W.count words.new ≡ W.count words.old }
 {
     let at = 16 + local.state.control.look as u64;
@@ -59,10 +55,10 @@ fn take_turn<W: Words>(image: &Image, inputs: &[i64], s: &mut State, words: &mut
     requires size { W.count words.old ≡ s.old.limits.words }
     requires idles { s.old.tally.idles < 4294967296 }
     requires steady { IsSteady s.old.limits s.old.tally }
-    ensures turn {
-        (old : ℕ) × MakesBy W.gives words.old (turn.ask image.now s.old) old words.new × (s.new ≡ turn.instr image.now inputs.now s.old old) × (result ≡ turn.turn_answer image.now s.old old)
-    }
+    ensures turn { (old : ℕ) × MakesBy W.gives words.old (turn.ask image.now s.old) old words.new × (s.new ≡ turn.instr image.now inputs.now s.old old) × (result ≡ turn.turn_answer image.now s.old old) }
     ensures size { W.count words.new ≡ W.count words.old }
+    ensures limits { s.new.limits ≡ s.old.limits }
+    ensures idles { s.new.tally.idles ≡ s.old.tally.idles + turn.idled result }
     ensures steady { IsSteady s.new.limits s.new.tally }
 {
     let limits = s.limits;
@@ -156,6 +152,8 @@ fn settle(image: &Image, inputs: &[i64], due: Due, s: &mut State, old: u64) -> T
     requires ready { IsReady due s.old.control }
     ensures state { s.new ≡ turn.left_by image.now inputs.now due s.old old }
     ensures answer { result ≡ turn.answer_of due s.old.control old }
+    ensures limits { s.new.limits ≡ s.old.limits }
+    ensures idles { s.new.tally.idles ≡ s.old.tally.idles + turn.idled result }
     ensures steady { IsSteady s.new.limits s.new.tally }
 {
     let limits = s.limits;

@@ -6,6 +6,8 @@ mod effect;
 mod exec;
 mod local;
 mod tally;
+#[cfg(test)]
+mod tests;
 
 pub use co_machine::{Limits, Looked, Posted, StopKind, Turn};
 pub use exec::{exec_one, look, post};

@@ -32,7 +32,9 @@ fn stack_of(image: &Image, worker: u32) -> u64
     ensures { result ≡ turn.stack_of image.now worker }
 {
     let globals = image.globals.len() as u64;
-    65552u64.wrapping_add(globals).wrapping_add(16384 * worker as u64)
+    65552u64
+        .wrapping_add(globals)
+        .wrapping_add(16384 * worker as u64)
 }
 
 // A worker to which nothing has happened: a look is due.
@@ -47,7 +49,12 @@ fn blank(alloc: Global, at: u64) -> Result<Control, NoMemory>
         pc: 0,
         fp: at,
         sp: at,
-        registers: Registers { a: 0, b: 0, c: 0, d: 0 },
+        registers: Registers {
+            a: 0,
+            b: 0,
+            c: 0,
+            d: 0,
+        },
         stack: at,
         stack_end: at.wrapping_add(16384),
         top: base_entry(at),
@@ -107,7 +114,12 @@ fn fresh_control(alloc: Global, image: &Image, worker: u32) -> Result<Control, N
 
 impl Local {
     /// The state in which a worker of these limits begins: worker 0 in `main`, the others with a look.
-    pub fn new(alloc: Global, image: &Image, limits: &Limits, worker: u32) -> Result<Local, NoMemory>
+    pub fn new(
+        alloc: Global,
+        image: &Image,
+        limits: &Limits,
+        worker: u32,
+    ) -> Result<Local, NoMemory>
         requires limits { IsInRange limits.now }
         requires worker { worker < limits.now.workers }
         ensures { IfOk result (λ l. l ≡ turn.fresh image.now limits.now worker) }
@@ -122,7 +134,12 @@ impl Local {
             born: 0,
             died: 0,
         };
-        let state = State { limits: *limits, worker, tally, control };
+        let state = State {
+            limits: *limits,
+            worker,
+            tally,
+            control,
+        };
         Ok(Local { state })
     }
 

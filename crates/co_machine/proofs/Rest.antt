@@ -39,7 +39,7 @@ with_idles : (i : Instr) (t : Tally) → (counted_with i t).idles ≡ t.idles + 
 with_idles op.Made t = sym (add-zero t.idles)
 with_idles i t = sym (add-zero t.idles)
 
-tallied_idles : (d : Due) (seen : Looked) (old : ℕ) (t : Tally) → (tallied d seen old t).idles ≡ t.idles + idled (answer_by d seen old)
+pub tallied_idles : (d : Due) (seen : Looked) (old : ℕ) (t : Tally) → (tallied d seen old t).idles ≡ t.idles + idled (answer_by d seen old)
 tallied_idles act.LoadStop seen old t = loaded_idles (old == 0) t
 tallied_idles act.LookStop seen old t = loaded_idles (old == 0) t
 tallied_idles act.LookCell looked.Empty old t = refl
