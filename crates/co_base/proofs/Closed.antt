@@ -1,19 +1,18 @@
 -- Each operation stays among the values of its type.
-use Rattle.std.proofs.Common.{◌≡◌, ◌≢◌, ℕ, ◌%◌, ◌/◌, ◌^◌, ◌<◌, ◌≤◌, ℤ, pos, negsuc, refl, arith, rules, Bool, true, false, ◌&&◌}
-use Rattle.std.specs.Prelude.{Some, None, Option, IsTrue, IfSome, if◌then◌else◌, not, bit_and, bit_or, bit_xor}
+use Rattle.std.proofs.Common.{◌≡◌, ◌≢◌, ℕ, ◌%◌, ◌/◌, ◌^◌, ◌<◌, ℤ, pos, negsuc, refl, arith, Bool, true, false, ◌&&◌}
+use Rattle.std.specs.Prelude.{Some, None, Option, IsTrue, IfSome, if◌then◌else◌, bit_and, bit_or, bit_xor}
 use Rattle.std.specs.Option.{option_map}
-use Rattle.std.specs.Ordering.{int_eq}
-use Rattle.std.specs.Int.{w32, w64, int_shr}
+use Rattle.std.specs.Int.{int_shr}
 use Rattle.std.specs.Int.Bits.{and_lt}
-use Rattle.std.specs.Int.RustNames.{FitsSigned, int_div, int_rem, unsigned_abs}
-use Rattle.std.specs.Int.Signed.{mag, mag_rem, mag_shr}
+use Rattle.std.specs.Int.RustNames.{int_rem, unsigned_abs}
+use Rattle.std.specs.Int.Signed.{mag_rem, mag_shr}
 use Rattle.std.proofs.Math.Nat.{mod-le, div-le_self}
 use Rattle.std.proofs.lemmas.Nat.{or_lt, xor_lt}
 use Rattle.co_base.specs.declared.kinds.Num.{Num}
 use Rattle.co_base.specs.declared.kinds.Num.TheVariants.{Bool as Truth, Int, Long, Size}
 use Rattle.co_base.specs.declared.kinds.Op.{Op}
 use Rattle.co_base.specs.declared.kinds.Op.TheVariants.{Add, Sub, Mul, Div, Rem, Shl, Shr, And, Or, Xor, Lt, Le, Gt, Ge, Eq, Ne}
-use Rattle.co_base.specs.Integers.{arith_of, bit_count, can_divide, computed, held, kept, lies_in, of_residue, operand, reduced, residue, shift_count, truth, value_of, IsOperand, IsValue}
+use Rattle.co_base.specs.Integers.{arith_of, bit_count, can_divide, computed, held, kept, lies_in, of_residue, operand, residue, shift_count, truth, value_of, IsOperand, IsValue}
 use Rattle.co_base.proofs.Ranges.{holds_its_value, int_fits, int_lies, is_congruent, is_held, long_fits, long_lies, of_residue_lies, residue_below, size_below, size_lies}
 
 if_true : (P : ℤ → Type 0) (b : Bool) (z : ℤ) → (b ≡ true → P z) → IfSome (if b then Some z else None) P

@@ -1,12 +1,11 @@
 -- The ranges of the types, as tests and as facts.
-use Rattle.std.proofs.Common.{◌≡◌, ℕ, suc, ◌*◌, ◌-◌, ◌/◌, ◌%◌, ◌^◌, ◌<◌, ◌≤◌, ℤ, pos, negsuc, ◌*ℤ◌, ◌+ℤ◌, refl, ap, sym, subst, ◌∙◌, arith, rules, Bool, true, false, ◌⊎◌, inl, inr, Fits}
-use Rattle.std.specs.Prelude.{Some, None, Option, IsTrue, nat_lt}
-use Rattle.std.specs.Int.{Width, w32, w64, cast_signed, cast_unsigned, int_rem_euclid}
-use Rattle.std.specs.Int.RustNames.{FitsSigned, unsigned_abs}
+use Rattle.std.proofs.Common.{◌≡◌, ℕ, suc, ◌-◌, ◌/◌, ◌^◌, ◌<◌, ℤ, pos, negsuc, ◌*ℤ◌, ◌+ℤ◌, refl, ap, arith, rules, Bool, true, false, Fits}
+use Rattle.std.specs.Prelude.{IsTrue, nat_lt}
+use Rattle.std.specs.Int.{Width, w32, w64, cast_signed}
+use Rattle.std.specs.Int.RustNames.{FitsSigned}
 use Rattle.std.proofs.Math.Facts.{sfits_to_z, Fits-lt-pow}
 use mir.Val.{bits, hbits, sel}
 use mir.ValLaws.{of_z_fits}
-use Rattle.std.proofs.lemmas.Grind.{common_steps}
 use Rattle.std.proofs.lemmas.Bool.Decides.{nat_tests}
 use Rattle.std.proofs.lemmas.Int.{ints, to_z-of_z, of_z-to_z}
 use Rattle.co_base.specs.declared.kinds.Num.{Num}

@@ -1,6 +1,6 @@
 -- A shift to the left is the product by a power of two, reduced.
-use Rattle.std.proofs.Common.{◌≡◌, ℕ, ◌*◌, ◌%◌, ◌^◌, ◌<◌, ℤ, pos, negsuc, ◌*ℤ◌, refl, ap, sym, subst, ◌∙◌, arith, rules, Bool, true, false, ◌⊎◌, inl, inr, Fits}
-use Rattle.std.specs.Prelude.{Some, None, Option}
+use Rattle.std.proofs.Common.{◌≡◌, ℕ, ◌^◌, ◌<◌, ℤ, pos, negsuc, ◌*ℤ◌, ap, sym, subst, ◌∙◌, arith, ◌⊎◌, inl, inr}
+use Rattle.std.specs.Prelude.{Some, Option}
 use Rattle.std.specs.Option.{option_map}
 use Rattle.std.specs.Int.{Width, w32, w64, int_shl, int_wrap, cast_signed, cast_unsigned}
 use Rattle.std.specs.Int.RustNames.{FitsSigned}
@@ -9,11 +9,10 @@ use mir.ValLaws.{of_z_fits}
 use Rattle.std.proofs.Math.Facts.{Fits-lt-pow}
 use Rattle.std.proofs.Math.Nat.{mod-eq_of_lt}
 use Rattle.std.proofs.Math.Pow.{pow-lt}
-use Rattle.std.proofs.lemmas.Grind.{common_steps}
 use Rattle.std.proofs.lemmas.Bool.Decides.{nat_tests}
-use Rattle.std.proofs.lemmas.Int.{ints, wrapping_mul-bits, to_z-of_z, int_wrap-mul_right}
+use Rattle.std.proofs.lemmas.Int.{wrapping_mul-bits, to_z-of_z, int_wrap-mul_right}
 use Rattle.co_base.specs.declared.kinds.Num.{Num}
-use Rattle.co_base.specs.declared.kinds.Num.TheVariants.{Bool as Truth, Int, Long, Size}
+use Rattle.co_base.specs.declared.kinds.Num.TheVariants.{Int, Long, Size}
 use Rattle.co_base.specs.declared.kinds.Op.TheVariants.{Shl}
 use Rattle.co_base.specs.Integers.{arith_of, bit_count, held, reduced, shift_count, value_of}
 

@@ -1,9 +1,9 @@
 -- Steps of the loops over a file's reads and a sink's writes.
-use Rattle.std.proofs.Common.{◌≡◌, ℕ, zero, suc, ◌+◌, ◌-◌, ◌≤◌, List, [], ◌∷◌, ◌++◌, length, take, drop, refl, ap, subst, append_assoc, ◌∙◌, arith, length-append, length-drop, zero-add}
+use Rattle.std.proofs.Common.{◌≡◌, ℕ, zero, suc, ◌+◌, ◌-◌, ◌≤◌, List, [], ◌∷◌, ◌++◌, length, take, drop, refl, ap, sym, subst, append-nil, append_assoc, ◌∙◌, arith, length-append, length-drop, zero-add}
 use Rattle.std.specs.Prelude.{Option, Some, None}
 use Rattle.std.proofs.lemmas.List.{length-take-le, take_all, take-append-le}
-use Rattle.std.proofs.Math.Seq.{take-nil}
-use Rattle.co_base.specs.Outside.{HoldsFirst, Reads, Takes}
+use Rattle.std.proofs.Math.Seq.{take-append-add, take-nil}
+use Rattle.co_base.specs.Outside.{HoldsFirst, Reads, Takes, TakesFront}
 
 pub Takes-append : (a b c : Option (List ℕ)) (xs ys : List ℕ) → Takes a xs b → Takes b ys c → Takes a (xs ++ ys) c
 Takes-append None b c xs ys h k = tt
@@ -11,6 +11,20 @@ Takes-append (Some bytes) b c xs ys h k =
     let P : Option (List ℕ) → Type 0 = λ o. Takes o ys c in
     let at_some : Takes (Some (bytes ++ xs)) ys c = subst P h k in
     at_some ∙ ap (λ (zs : List ℕ). Some zs) (append_assoc bytes xs ys)
+
+pub Takes-nil : (a : Option (List ℕ)) → Takes a [] a
+Takes-nil None = tt
+Takes-nil (Some bytes) = ap (λ (zs : List ℕ). Some zs) (sym (append-nil bytes))
+
+-- all of a piece and then the front of the next
+pub TakesFront-append : (a b c : Option (List ℕ)) (xs ys : List ℕ) → Takes a xs b → TakesFront b ys c → TakesFront a (xs ++ ys) c
+TakesFront-append a b c xs ys h (n, within, k) =
+    (length xs + n, omega (arith, within, length-append xs ys), rw (take-append-add xs ys n) (Takes-append a b c xs (take n ys) h k))
+
+-- the front of a piece, and nothing of the next
+pub TakesFront-more : (a b : Option (List ℕ)) (xs ys : List ℕ) → TakesFront a xs b → TakesFront a (xs ++ ys) b
+TakesFront-more a b xs ys (n, within, k) =
+    (n, omega (arith, within, length-append xs ys), rw (take-append-le n xs ys within) k)
 
 pub take-plus : (n m : ℕ) (xs : List ℕ) → take n xs ++ take m (drop n xs) ≡ take (n + m) xs
 take-plus zero m xs = rw zero-add refl

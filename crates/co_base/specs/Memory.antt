@@ -1,5 +1,5 @@
 -- The files and the sink that lie in memory: what each call does, by the state before it.
-use Rattle.std.specs.Prelude.{ℕ, ◌-◌, ◌==◌, ◌&&◌, ◌||◌, nat_lt, nat_le, min, Bool, if◌then◌else◌, Option, Some, is_none, List, ◌++◌, length, take}
+use Rattle.std.specs.Prelude.{ℕ, ◌-◌, ◌==◌, ◌&&◌, ◌||◌, nat_lt, nat_le, min, Bool, if◌then◌else◌, Option, Some, is_none, List, [], ◌++◌, length, take}
 use Rattle.std.specs.List.{list_any}
 use Rattle.std.specs.BTreeMap.{get_by_text}
 use Rattle.std.specs.Str.{bytes_eq}
@@ -35,6 +35,10 @@ pub record MemorySink : Type 0 where
   pub failing : List ℕ
   pub calls : ℕ
   pub faults : ℕ
+
+-- a sink with this room that takes at most so many bytes in one call, as it is made
+abbrev pub fresh_sink : ℕ → ℕ → MemorySink
+fresh_sink room most = record { taken = []; room = room; most = most; failing = []; calls = 0; faults = 0 }
 
 -- Whether a write of this piece fails now: its number was chosen, or the piece isn't empty and
 -- there is no room left.

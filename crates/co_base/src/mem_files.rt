@@ -39,7 +39,8 @@ impl MemFiles {
     /// Holds these bytes under this name, in place of those that it held there before. After
     /// `NoMemory` nothing has changed.
     pub fn add(&mut self, name: &str, bytes: &[u8]) -> Result<(), NoMemory>
-        ensures ok { OnOk result ((q : List ℕ) → held_at self.new q ≡ with_file (held_at self.old) name.now bytes.now q) }
+        ensures ok { OnOk result ((q : List ℕ) →
+            held_at self.new q ≡ with_file (held_at self.old) name.now bytes.now q) }
         ensures err { OnErr result (held_at self.new ≡ held_at self.old) }
         ensures failing { self.new.failing.items ≡ self.old.failing.items }
         ensures calls { self.new.calls ≡ self.old.calls }
@@ -88,7 +89,8 @@ impl Files for MemFiles {
         ensures ok { OnOk result (self.new.faults ≡ self.old.faults) }
         ensures failed { OnErr result (HasRisen self.old.faults self.new.faults) }
         ensures fails { is_err result ≡ read_fails self.old name.now }
-        ensures count { IfOk result (λ n. IfSome (held_at self.old name.now) (λ bytes. n ≡ read_count (length bytes) at (length into.old))) }
+        ensures count { IfOk result (λ n. IfSome (held_at self.old name.now)
+            (λ bytes. n ≡ read_count (length bytes) at (length into.old))) }
         ensures failing { self.new.failing.items ≡ self.old.failing.items }
         ensures calls { self.new.calls ≡ one_more self.old.calls }
         ensures faults { OnErr result (self.new.faults ≡ one_more self.old.faults) }

@@ -1,6 +1,6 @@
 ghost use Rattle.std.specs.Prelude.{◌≡◌, ◌∷◌, [], ◌++◌, ◌<◌, ◌≤◌, length, take, is_err, IfOk, OnOk, OnErr};
 ghost use Rattle.co_base.specs.Outside.{HasRisen, Takes};
-ghost use Rattle.co_base.specs.Memory.{after_write, write_count, write_fails};
+ghost use Rattle.co_base.specs.Memory.{after_write, fresh_sink, write_count, write_fails};
 
 use crate::fault::{Failed, NoMemory};
 use crate::outside::Sink;
@@ -41,7 +41,7 @@ impl Model for MemSink {
 impl MemSink {
     /// A sink with room for so many bytes, which are reserved now. `NoMemory`: there is none.
     pub fn new(alloc: Global, room: usize) -> Result<MemSink, NoMemory>
-        ensures { IfOk result (λ s. s ≡ record { taken = []; room = room; most = usize.MAX; failing = []; calls = 0; faults = 0 }) }
+        ensures { IfOk result (λ s. s ≡ fresh_sink room usize.MAX) }
     {
         MemSink::slow(alloc, room, usize::MAX)
     }
@@ -49,7 +49,7 @@ impl MemSink {
     /// A sink that takes at most `most` bytes in one call.
     pub fn slow(alloc: Global, room: usize, most: usize) -> Result<MemSink, NoMemory>
         requires { 1 ≤ most }
-        ensures { IfOk result (λ s. s ≡ record { taken = []; room = room; most = most; failing = []; calls = 0; faults = 0 }) }
+        ensures { IfOk result (λ s. s ≡ fresh_sink room most) }
     {
         Ok(MemSink {
             taken: Vec::with_capacity(alloc, room)?,
