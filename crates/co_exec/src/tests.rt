@@ -1,5 +1,5 @@
 //! Hand-assembled images: what each instruction prints and where it stops, by the table in `docs/MACHINE.md`.
-ghost use Rattle.std.specs.Prelude.{◌≡◌, IfOk, length};
+ghost use Rattle.std.specs.Prelude.{◌≡◌, ◌≤◌, IfOk, length};
 
 use crate::exec::{exec_one, look, post};
 use crate::local::Local;
@@ -614,10 +614,11 @@ fn image_of(alloc: Global, code: &[Instr]) -> Result<Image, NoMemory> {
     })
 }
 
-fn opening(alloc: Global) -> Result<VecWords, NoMemory>
-    ensures { IfOk result (λ words. length words ≡ 2097152) }
+fn opening(alloc: Global, size: usize) -> Result<VecWords, NoMemory>
+    requires { 5 ≤ size }
+    ensures { IfOk result (λ words. length words ≡ size) }
 {
-    let mut words = vec![in alloc; 0u64; 2097152]?;
+    let mut words = vec![in alloc; 0u64; size]?;
     words[3] = 81937;
     words[4] = 1;
     VecWords::new(alloc, words.as_slice())
@@ -665,16 +666,24 @@ fn row_holds(alloc: Global, row: &Row) -> Result<bool, NoMemory> {
         budget: 200_000,
     };
     let mut local = Local::new(alloc, &image, &limits, 0)?;
-    let mut words = opening(alloc)?;
+    let mut words = opening(alloc, 2097152)?;
     drive(&image, &mut local, &mut words);
     Ok(holds(row, &local))
 }
 
+// The number of the first row that does not hold.
+fn first_failing(alloc: Global, rows: &[Row]) -> Result<Option<usize>, NoMemory> {
+    for (n, row) in rows.iter().enumerate() {
+        if !row_holds(alloc, row)? {
+            return Ok(Some(n));
+        }
+    }
+    Ok(None)
+}
+
 #[test]
 fn instructions(rt: HostRuntime) -> Result<(), Fail> {
-    for (n, row) in ROWS.iter().enumerate() {
-        assert!(rt; row_holds(rt.alloc(), row)?, "row {n}");
-    }
+    assert_eq!(rt; first_failing(rt.alloc(), &ROWS)?, None);
     Ok(())
 }
 
@@ -687,7 +696,7 @@ fn cells(rt: HostRuntime) -> Result<(), Fail> {
         budget: 1,
     };
     let mut local = Local::new(rt.alloc(), &image, &limits, 1)?;
-    let mut words = opening(rt.alloc())?;
+    let mut words = opening(rt.alloc(), 2097152)?;
     assert!(rt; matches!(post(&mut local, &mut words, 70000), Posted::Done));
     assert!(rt; matches!(look(&mut local, &mut words), Looked::Found(70000)));
     assert!(rt; matches!(look(&mut local, &mut words), Looked::Next));
