@@ -1,7 +1,7 @@
 ghost use Rattle.std.specs.Prelude.{◌≡◌, ◌<◌, ◌≤◌, ◌-◌, ◌==◌, pos, length, nat_lt, slice_get, Some, if◌then◌else◌};
 ghost use Rattle.co_machine.specs.Check as check;
 ghost use Rattle.co_machine.specs.Effect.{ask_due, ask_of};
-ghost use Rattle.co_machine.specs.Storage.{newest_of};
+ghost use Rattle.co_words.specs.Storage.{newest_of};
 ghost use Rattle.co_machine.specs.Ready.{HasRoom, IsAllowed, IsReady, IsTo, IsWithin};
 
 use co_base::{Limit, Span, Undef};

@@ -5,7 +5,8 @@ ghost use Rattle.co_machine.specs.Turn as turn;
 use co_base::{Counts, NoMemory, Print};
 use co_code::Image;
 use co_exec_rows::entries::base_entry;
-use co_machine::{Control, Limits, Next, Prints, Registers, Spare, Stack, State, StopKind, Tally};
+use co_machine::{Control, Limits, Next, Prints, Registers, Stack, State, StopKind, Tally};
+use co_words::Blocks;
 use std::alloc::Global;
 use std::marker::Model;
 
@@ -44,7 +45,7 @@ fn blank(alloc: Global, at: u64) -> Result<Control, NoMemory>
     let below = Stack::new(alloc)?;
     let handled = Stack::new(alloc)?;
     let prints = Prints::new(alloc)?;
-    let spare = Spare::new(alloc)?;
+    let spare = Blocks::new(alloc)?;
     Ok(Control {
         pc: 0,
         fp: at,

@@ -4,7 +4,7 @@ ghost use Rattle.co_machine.specs.Effect as effect;
 
 use crate::change::{meet, set_block};
 use co_base::{Limit, Span, Undef};
-use co_machine::{Block, Control, Limits, StopKind};
+use co_machine::{Control, Limits, StopKind};
 
 /// The words that TAKE asks for, at least 1.
 pub fn asked(k: &Control) -> u64
@@ -32,7 +32,7 @@ pub fn reuse(size: u64, place: u64, k: &mut Control)
     requires { k.old.pc < 4294967295 }
     ensures { k.new ≡ effect.reused size place k.old }
 {
-    k.spare.remove(size);
+    let _ = k.spare.remove(size);
     set_block(size, place.saturating_sub(1), k);
 }
 
@@ -42,10 +42,7 @@ pub fn give_back(old: u64, limits: Limits, at: Span, k: &mut Control)
     ensures { k.new ≡ effect.given_back old limits at k.old }
 {
     if 0 < old && old <= limits.words {
-        k.spare.give(Block {
-            size: old,
-            place: k.registers.a,
-        });
+        k.spare.add(old, k.registers.a);
         k.pc += 1;
     } else {
         meet(StopKind::Undefined(Undef::U11, at), k);

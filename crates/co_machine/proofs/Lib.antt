@@ -1,3 +1,2 @@
-pub mod Blocks
 pub mod Steady
 pub mod Rest

@@ -17,7 +17,7 @@ use Rattle.co_machine.specs.declared.state.Next.{Next}
 use Rattle.co_machine.specs.declared.state.Next.TheVariants as ahead
 use Rattle.co_machine.specs.declared.state.Tally.{Tally}
 use Rattle.co_machine.specs.declared.stop.StopKind.TheVariants as stop
-use Rattle.co_machine.specs.Storage.{newest_of}
+use Rattle.co_words.specs.Storage.{newest_of}
 use Rattle.co_machine.specs.Values.{nowhere, span_at, lawful, state_word}
 
 -- ---- one instruction

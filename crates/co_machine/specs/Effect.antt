@@ -38,7 +38,7 @@ use Rattle.co_words.specs.declared.access.Access.{Access}
 use Rattle.co_words.specs.declared.access.Access.TheVariants as access
 use Rattle.co_machine.specs.Check.{asked}
 use Rattle.co_machine.specs.Rows.{pool, met, begun, searched}
-use Rattle.co_machine.specs.Storage.{given, without}
+use Rattle.co_words.specs.Storage.{given, without}
 use Rattle.co_machine.specs.Values.{wrap, nowhere, span_at, register, with_register, packed, unpacked, exception, thrown_of, serial_in, final_in}
 
 -- ---- the access

@@ -1,6 +1,5 @@
 pub mod Values
 pub mod Rows
-pub mod Storage
 pub mod Check
 pub mod Effect
 pub mod Ready

@@ -1,8 +1,8 @@
 use crate::limits::Limits;
 use crate::prints::Prints;
-use crate::spare::Spare;
 use crate::stack::Stack;
 use crate::stop::StopKind;
+use co_words::Blocks;
 
 /// The four registers. As an exception, a tells its type: 0 null, 1 `int`, 2 `long`, 3 `bool`, from 4 on the classes
 /// by number; b, c and d are its members.
@@ -91,7 +91,7 @@ pub struct Control {
     pub below: Stack<Entry>,
     pub handled: Stack<Registers>,
     pub prints: Prints,
-    pub spare: Spare,
+    pub spare: Blocks,
     pub look: u16,
     pub post: u16,
     pub tried: u16,
