@@ -1,1 +1,3 @@
-pub mod Seen
+pub mod Groups
+pub mod Keeps
+pub mod Linked

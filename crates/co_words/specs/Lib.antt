@@ -1,2 +1,3 @@
-pub mod Words
+pub mod Chains
 pub mod Storage
+pub mod Words

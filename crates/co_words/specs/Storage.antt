@@ -1,54 +1,37 @@
 -- Spare blocks.
-use Rattle.std.specs.Prelude.{ℕ, ◌+◌, Bool, true, false, ◌&&◌, nat_lt, nat_le, ◌==◌, if◌then◌else◌, min, List, [], ◌∷◌, length, Option, Some, None, slice_get, Result, Ok, Err}
-use Rattle.std.specs.List.{insert, remove}
-use Rattle.co_words.specs.declared.blocks.Block.{Block}
+use Rattle.std.specs.Prelude.{ℕ, ◌+◌, Bool, false, not, ◌&&◌, ◌||◌, nat_lt, nat_le, ◌==◌, if◌then◌else◌, min, List, [], ◌∷◌, length, Option, Some, None, Result, Ok, Err}
+use Rattle.co_words.specs.declared.links.Block.{Block}
 use Rattle.co_words.specs.declared.storage.StoreFull.{StoreFull}
 use Rattle.co_base.specs.declared.kinds.Undef.{Undef}
 use Rattle.co_base.specs.declared.kinds.Undef.TheVariants.{U11}
 
--- the number of an item, one further in a longer list; else that of the first, if it is one
-abbrev pub later_or_here : Option ℕ → Bool → Option ℕ
-later_or_here (Some n) here = Some (n + 1)
-later_or_here None true = Some 0
-later_or_here None false = None
+-- a block of that size is among the blocks
+abbrev pub has : ℕ → List Block → Bool
+has size [] = false
+has size (b ∷ blocks) = b.size == size || has size blocks
 
--- the number of the last block of that size, which is the newest
-abbrev pub last_of : ℕ → List Block → Option ℕ
-last_of size [] = None
-last_of size (b ∷ blocks) = later_or_here (last_of size blocks) (b.size == size)
+-- the block, which comes before those blocks, has that size, and none of them has it
+abbrev pub is_last : ℕ → Block → List Block → Bool
+is_last size b blocks = b.size == size && not (has size blocks)
 
-abbrev pub place_in : Option Block → Option ℕ
-place_in (Some b) = Some b.place
-place_in None = None
-
-abbrev pub place_at : Option ℕ → List Block → Option ℕ
-place_at (Some n) blocks = place_in (slice_get blocks n)
-place_at None blocks = None
-
--- the place of the newest spare block of that size
+-- the place of the newest spare block of that size, which is the last one of that size
 abbrev pub newest_of : ℕ → List Block → Option ℕ
-newest_of size blocks = place_at (last_of size blocks) blocks
-
-abbrev pub without_at : Option ℕ → List Block → List Block
-without_at (Some n) blocks = remove blocks n
-without_at None blocks = blocks
+newest_of size [] = None
+newest_of size (b ∷ blocks) = if is_last size b blocks then Some b.place else newest_of size blocks
 
 -- the list without that block
 abbrev pub without : ℕ → List Block → List Block
-without size blocks = without_at (last_of size blocks) blocks
+without size [] = []
+without size (b ∷ blocks) = if is_last size b blocks then blocks else b ∷ without size blocks
 
 -- blocks of more than 1,024 words stand together
 abbrev pub group : ℕ → ℕ
 group size = min size 1025
 
--- how many blocks stand before those of a greater group
-abbrev pub before_greater : ℕ → List Block → ℕ
-before_greater g [] = 0
-before_greater g (b ∷ blocks) = if nat_lt g (group b.size) then 0 else before_greater g blocks + 1
-
--- the block joins its group as the newest
+-- the block joins its group as the newest, before those of a greater group
 abbrev pub joined : Block → List Block → List Block
-joined b blocks = insert blocks (before_greater (group b.size) blocks) b
+joined b [] = b ∷ []
+joined b (c ∷ blocks) = if nat_lt (group b.size) (group c.size) then b ∷ (c ∷ blocks) else c ∷ joined b blocks
 
 -- a block is given up for good where 4,096 are kept already
 abbrev pub given : Block → List Block → List Block

@@ -3,12 +3,17 @@
 
 mod access;
 mod blocks;
+mod larger;
+mod links;
 mod storage;
+#[cfg(test)]
+mod tests;
 mod vec_words;
 mod words;
 
 pub use access::Access;
-pub use blocks::{Block, Blocks};
+pub use blocks::Blocks;
+pub use links::Block;
 pub use storage::{StoreFull, give_block, take_block};
 pub use vec_words::VecWords;
 pub use words::Words;

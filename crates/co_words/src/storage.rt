@@ -17,6 +17,7 @@ pub struct StoreFull;
 ///
 /// `StoreFull` comes exactly where no spare block has that size, and the size is above the number of words or the block
 /// would end past the last word. The spare blocks are then as before.
+#[tactic(auto, using(crate::proofs::Groups::without_absent))]
 pub fn take_block<W: Words>(blocks: &mut Blocks, words: &mut W, size: u64) -> Result<u64, StoreFull>
     requires size { 1 ≤ size }
     requires words { 4 ≤ W.count words.old }
