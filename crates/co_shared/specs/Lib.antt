@@ -1,0 +1,5 @@
+pub mod Closing
+pub mod History
+pub mod Passes
+pub mod Rule
+pub mod Sights
