@@ -29,3 +29,7 @@ advanced p a r = sight p.id (did p.told a r)
 -- the access a through the pass answered r
 abbrev pub Steps : Grip → Access → ℕ → Grip → Type 0
 Steps h a r k = (k.ground ≡ h.ground) × (k.pass ≡ advanced h.pass a r)
+
+-- the pass p later, which split off and took in none since
+abbrev pub IsLater : Sight → Sight → Type 0
+IsLater p q = (q.id ≡ p.id) × (q.told.number ≡ p.told.number) × (q.told.splits ≡ p.told.splits) × (q.told.ended ≡ p.told.ended)

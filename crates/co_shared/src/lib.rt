@@ -4,6 +4,8 @@
 mod held;
 mod rule;
 mod shared;
+#[cfg(test)]
+mod tests;
 mod told;
 
 pub use held::Held;
