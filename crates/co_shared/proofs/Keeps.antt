@@ -1,21 +1,21 @@
 -- Each step keeps the rule of the shared words.
-use Rattle.std.proofs.Common.{◌≡◌, ℕ, zero, suc, ◌+◌, ◌<◌, ◌≤◌, ◌≢◌, ⊎_elim, Bool, true, false, List, [], ◌∷◌, ◌++◌, length, set, sym, refl, ap, ◌∙◌, subst, arith, length-set, length-append}
+use Rattle.std.proofs.Common.{◌≡◌, ℕ, zero, suc, ◌+◌, ◌<◌, ◌≤◌, ◌≢◌, ⊎_elim, false, List, [], ◌∷◌, ◌++◌, length, set, sym, refl, ap, ◌∙◌, subst, arith, length-set, length-append}
 use Rattle.std.proofs.lemmas.Bool.{true≢false}
 use Rattle.std.specs.Prelude.{slice_index, slice_set}
 use mathlib.Core.Option.{some, some-injective, some-ne-none}
 use lib.ListN.{get_elem?}
 use Rattle.atomic_table.specs.Table.{State, Me, keeps, Allows, Splits, Joins, Final, Seen, opening}
-use Rattle.atomic_table.proofs.Lists.{at_set, set_here, set_else, at_longer}
+use Rattle.atomic_table.proofs.Lists.{at_set, set_here, set_else, at_longer, at_last}
 use Rattle.co_words.specs.declared.access.Access.{Access}
 use Rattle.co_words.specs.Words.{place, put, answer, after}
 use Rattle.co_shared.specs.declared.told.Ended.{Ended}
 use Rattle.co_shared.specs.declared.told.Told.{Told}
 use Rattle.co_shared.specs.declared.told.View.{View}
-use Rattle.co_shared.specs.History.{Rows, Legal, replay, part, late}
-use Rattle.co_shared.specs.Passes.{entry, fresh, did, split_once, joined, ended_of, AreDistinct, here, gone, newcomer, steps, splitter, newer, taker}
+use Rattle.co_shared.specs.History.{Rows, part, late}
+use Rattle.co_shared.specs.Passes.{entry, fresh, did, split_once, joined, ended_of, AreDistinct, HasNumber, living, here, gone, newcomer, steps, splitter, newer, taker}
 use Rattle.co_shared.specs.Rule.{IsEnded, Kept}
 use Rattle.co_shared.specs.Closing.{Closes}
-use Rattle.co_shared.proofs.Logs.{replay-snoc, legal-snoc, part-same, part-other, before-snoc, late-none, inside, only, snoc_cases, at_or}
+use Rattle.co_shared.proofs.Logs.{replay-snoc, legal-snoc, part-same, part-other, before-snoc, late-none, inside, only, snoc_cases, at_or, there, living-same, living-less, living-more, one_alive}
 
 abbrev St : Type 0
 St = State (Unit {0}) View
@@ -49,7 +49,10 @@ kept_step op s k id v a main live at f es ss =
       left = λ j x h. let g = same j x h in set_else s.views id x.number w (away j x g) ∙ k.left j x g;
       ended = λ j x h. let g = same j x h in let ne : id ≢ x.number = λ q. away j x g (sym q) in let was = k.ended j x g in
           record { other = was.other; list = part-other log x.number id e ne ∙ was.list; before = before-snoc log x.before x.number id e ne was.before };
-      distinct = subst AreDistinct (sym es) k.distinct
+      distinct = subst AreDistinct (sym es) k.distinct;
+      spent = λ i u h t. ⊎_elim (λ p. absurd (true≢false (sym t ∙ (ap (λ (z : View). z.spent) (sym p.1) ∙ live)))) (λ p. subst (λ (xs : List Ended). HasNumber xs i) (sym es) (k.spent i u p.1 t)) (at_set s.views id i w u h);
+      alive = let one : living (set s.views id w) ≡ living s.views = living-same s.views id v w at refl in let all : length (set s.views id w) ≡ length s.views = length-set s.views id w in
+          let joins' : length main.ended ≡ length k.main.ended = ap length es in let was = k.alive in omega arith;
     }
 
 kept_any : (op : List ℕ) (s : St) (k : Kept op s) (id : ℕ) (v : View) (a : Access) → v.spent ≡ false → get_elem? s.views id ≡ some v → Kept op (moved s id v a)
@@ -87,7 +90,12 @@ split_main op s k =
       others = λ i h. k.others i (omega (arith, length-append vs (x ∷ [])));
       left = λ j e h. at_longer vs (x ∷ []) e.number gone (set_else s.views 0 e.number w (λ q. let p : 0 < e.number = (k.ended j e h).other in omega arith) ∙ k.left j e h);
       ended = k.ended;
-      distinct = k.distinct
+      distinct = k.distinct;
+      spent = λ i u h l. ⊎_elim
+          (λ g. ⊎_elim (λ p. absurd (true≢false (sym l ∙ ap (λ (z : View). z.spent) (sym p.1)))) (λ p. k.spent i u p.1 l) (at_set s.views 0 i w u g))
+          (λ p. absurd (true≢false (sym l ∙ ap (λ (z : View). z.spent) (sym p.1)))) (snoc_cases vs x i u h);
+      alive = let one : living vs ≡ living s.views = living-same s.views 0 (here t) w k.first refl in let more : living (vs ++ x ∷ []) ≡ living vs + 1 = living-more vs x refl in
+          let all : length (vs ++ x ∷ []) ≡ length vs + 1 = length-append vs (x ∷ []) in let was = k.alive in omega arith;
     }
 
 module _ (op : List ℕ) (s : St) (k : Kept op s) (id : ℕ) (v : View) (at : get_elem? s.views id ≡ some v) (live : v.spent ≡ false) (none : v.told.number ≡ 0) where
@@ -119,8 +127,11 @@ join_main op s k other w ne at live =
     let near : 0 < length s.views = inside s.views 0 (here t) k.first in let mine : part 0 k.log ≡ t.list = k.parts 0 (here t) k.first refl in
     let wide : length (set vs other gone) ≡ length s.views = length-set vs other gone ∙ length-set s.views 0 b in
     let away = λ (j : ℕ) (e : Ended) (h : get_elem? t.ended j ≡ some e). apart s.views e.number other w (k.left j e h) there live in
-    let new : IsEnded k.log x = record { other = (let q : w.told.number ≡ other = num in let z : 0 < w.told.number = omega arith in z); list = ap (λ (n : ℕ). part n k.log) num ∙ k.parts other w there live;
-        before = ap (part w.told.number) (ap (λ xs. late k.log (length xs)) (sym mine) ∙ late-none k.log) } in
+    let new : IsEnded k.log x = record {
+      other = (let q : w.told.number ≡ other = num in let z : 0 < w.told.number = omega arith in z);
+      list = ap (λ (n : ℕ). part n k.log) num ∙ k.parts other w there live;
+      before = ap (part w.told.number) (ap (λ xs. late k.log (length xs)) (sym mine) ∙ late-none k.log);
+    } in
     record {
       log = k.log;
       main = joined t w.told;
@@ -137,7 +148,13 @@ join_main op s k other w ne at live =
           (λ g. set_else vs other e.number gone (away j e g) ∙ (set_else s.views 0 e.number b (λ q. let p : 0 < e.number = (k.ended j e g).other in omega arith) ∙ k.left j e g))
           (λ p. ap (get_elem? (set vs other gone)) (ap (λ (z : Ended). z.number) (sym p.1) ∙ num) ∙ set_here vs other gone (inside vs other w at)) (snoc_cases t.ended x j e h);
       ended = λ j e h. ⊎_elim (λ g. k.ended j e g) (λ p. subst (IsEnded k.log) p.1 new) (snoc_cases t.ended x j e h);
-      distinct = distinct-snoc t.ended x k.distinct (λ j e h q. away j e h (q ∙ num))
+      distinct = distinct-snoc t.ended x k.distinct (λ j e h q. away j e h (q ∙ num));
+      spent = λ i u h l. ⊎_elim
+          (λ p. record { at = length t.ended; pass = x; there = at_last t.ended x (length t.ended) refl; is = num ∙ sym p.0 })
+          (λ p. ⊎_elim (λ o. absurd (true≢false (sym l ∙ ap (λ (z : View). z.spent) (sym o.1))))
+          (λ o. let n = k.spent i u o.1 l in record { at = n.at; pass = n.pass; there = at_longer t.ended (x ∷ []) n.at n.pass n.there; is = n.is }) (at_set s.views 0 i b u p.1)) (at_set vs other i gone u h);
+      alive = let one : living vs ≡ living s.views = living-same s.views 0 (here t) b k.first refl in let less : living (set vs other gone) + 1 ≡ living vs = living-less vs other w gone at live refl in
+          let more : length (t.ended ++ x ∷ []) ≡ length t.ended + 1 = length-append t.ended (x ∷ []) in let was = k.alive in omega arith;
     }
 
 pub joins : (op : List ℕ) (id : ℕ) (v : View) (other : ℕ) (w : View) → v.spent ≡ false → v.told.number ≡ 0 → w.spent ≡ false → Joins (Kept op) id v other w (taker v w) gone
@@ -157,31 +174,36 @@ opens op = record {
   others = λ i h. refl;
   left = λ k e h. absurd (some-ne-none e (sym h));
   ended = λ k e h. absurd (some-ne-none e (sym h));
-  distinct = λ j k a b ha hb q. absurd (some-ne-none a (sym ha))
+  distinct = λ j k a b ha hb q. absurd (some-ne-none a (sym ha));
+  spent = λ i v h l. let p = only (newcomer 0) i v h in absurd (true≢false (sym l ∙ ap (λ (z : View). z.spent) (sym p.1)));
+  alive = refl;
 }
 
-closing : (op : List ℕ) (s : St) (k : Kept op s) (stamp stop : ℕ) → get_elem? s.words 1 ≡ some stamp → get_elem? s.words 2 ≡ some stop → Closes op k.main stamp stop
-closing op s k stamp stop one two = record {
+closing : (op : List ℕ) (s : St) (k : Kept op s) (stamp stop : ℕ) → length k.main.ended ≡ k.main.splits → get_elem? s.words 1 ≡ some stamp → get_elem? s.words 2 ≡ some stop → Closes op k.main stamp stop
+closing op s k stamp stop full one two = record {
   log = k.log;
   legal = k.legal;
   main = k.parts 0 (here k.main) k.first refl;
   ended = k.ended;
   bound = λ j e h. let near : e.number < length s.views = inside s.views e.number gone (k.left j e h) in omega (arith, k.count);
   distinct = k.distinct;
+  whole = λ n h l. let near : n < length s.views = omega (arith, k.count) in let v = there s.views n near in
+      let alone : living s.views ≡ 1 = omega (arith, k.count, k.alive) in k.spent n v.0 v.1 (one_alive s.views (here k.main) n v.0 k.first refl alone h v.1);
   others = λ n h. k.others n (omega (arith, k.count));
   stamp_is = ap (λ (ws : List ℕ). slice_index ws 1) k.words ∙ at_or s.words 1 stamp one;
-  stop_is = ap (λ (ws : List ℕ). slice_index ws 2) k.words ∙ at_or s.words 2 stop two
+  stop_is = ap (λ (ws : List ℕ). slice_index ws 2) k.words ∙ at_or s.words 2 stop two;
 }
 
 pub closes_at : (op : List ℕ) (id : ℕ) (v : View) (ws : List ℕ) (xs : List (Unit {0})) (stamp stop : ℕ) → Final (Seen (Kept op) id v) ws xs → v.spent ≡ false → v.told.number ≡ 0
-    → get_elem? ws 1 ≡ some stamp → get_elem? ws 2 ≡ some stop → Closes op v.told stamp stop
-closes_at op id v ws xs stamp stop f live none one two =
+    → length v.told.ended ≡ v.told.splits → get_elem? ws 1 ≡ some stamp → get_elem? ws 2 ≡ some stop → Closes op v.told stamp stop
+closes_at op id v ws xs stamp stop f live none full one two =
     let s : St = f.0 in let k : Kept op s = f.1.0 in let same : s.words ≡ ws = f.2 in
-    carried op s k id v f.1.1 live none (λ z. Closes op z.1.told stamp stop)
-    (closing op s k stamp stop (ap (λ (l : List ℕ). get_elem? l 1) same ∙ one) (ap (λ (l : List ℕ). get_elem? l 2) same ∙ two))
+    carried op s k id v f.1.1 live none (λ z. length z.1.told.ended ≡ z.1.told.splits → Closes op z.1.told stamp stop)
+    (λ all. closing op s k stamp stop all (ap (λ (l : List ℕ). get_elem? l 1) same ∙ one) (ap (λ (l : List ℕ). get_elem? l 2) same ∙ two)) full
 
 -- the same, of the list and the opening under other names
 pub closes : (opening : List ℕ) (told : Told) (op : List ℕ) (id : ℕ) (v : View) (ws : List ℕ) (xs : List (Unit {0})) (stamp stop : ℕ) → Final (Seen (Kept op) id v) ws xs → v.spent ≡ false → told.number ≡ 0
-    → op ≡ opening → v.told ≡ told → get_elem? ws 1 ≡ some stamp → get_elem? ws 2 ≡ some stop → Closes opening told stamp stop
-closes opening told op id v ws xs stamp stop f live none same list one two =
-    subst (λ (z : List ℕ × Told). Closes z.0 z.1 stamp stop) (λ i. (same i, list i)) (closes_at op id v ws xs stamp stop f live (ap (λ (t : Told). t.number) list ∙ none) one two)
+    → length told.ended ≡ told.splits → op ≡ opening → v.told ≡ told → get_elem? ws 1 ≡ some stamp → get_elem? ws 2 ≡ some stop → Closes opening told stamp stop
+closes opening told op id v ws xs stamp stop f live none full same list one two =
+    subst (λ (z : List ℕ × Told). Closes z.0 z.1 stamp stop) (λ i. (same i, list i)) (closes_at op id v ws xs stamp stop f live (ap (λ (t : Told). t.number) list ∙ none)
+    (subst (λ (t : Told). length t.ended ≡ t.splits) (sym list) full) one two)

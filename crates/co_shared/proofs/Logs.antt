@@ -1,5 +1,5 @@
 -- A history that grows by one access, and lists read by number.
-use Rattle.std.proofs.Common.{◌≡◌, ℕ, zero, suc, ◌<◌, ◌≢◌, ◌⊎◌, inl, inr, ⊎_elim, true, false, cond, eqb, eq-eqb, ne_eqb, List, [], ◌∷◌, ◌++◌, length, get_or, sym, refl, ap, ◌∙◌, arith}
+use Rattle.std.proofs.Common.{◌≡◌, ℕ, zero, suc, ◌+◌, ◌<◌, ◌≤◌, ◌≢◌, Bool, ◌⊎◌, inl, inr, ⊎_elim, true, false, cond, eqb, eq-eqb, ne_eqb, List, [], ◌∷◌, ◌++◌, length, set, sym, refl, ap, ◌∙◌, arith}
 use Rattle.std.specs.Prelude.{slice_index}
 use mathlib.Core.Option.{some, some-injective, some-ne-none}
 use mathlib.Core.Logic.{dite}
@@ -7,6 +7,8 @@ use native.Mathlib.Decide.{ℕ_discrete}
 use lib.ListN.{get_elem?}
 use Rattle.co_words.specs.Words.{place, answer, after}
 use Rattle.co_shared.specs.declared.told.Entry.{Entry}
+use Rattle.co_shared.specs.declared.told.View.{View}
+use Rattle.co_shared.specs.Passes.{living}
 use Rattle.co_shared.specs.History.{Rows, replay, Legal, part, late, Before}
 
 pub replay-snoc : (ws : List ℕ) (log : Rows) (r : ℕ × Entry) → replay ws (log ++ r ∷ []) ≡ after (replay ws log) r.1.access
@@ -69,3 +71,62 @@ pub at_or : (l : List ℕ) (i a : ℕ) → get_elem? l i ≡ some a → slice_in
 at_or [] i a h = absurd (some-ne-none a (sym h))
 at_or (x ∷ xs) zero a h = some-injective x a h
 at_or (x ∷ xs) (suc i) a h = at_or xs i a h
+
+pub there : {A : Type 0} (l : List A) (i : ℕ) → i < length l → (a : A) × (get_elem? l i ≡ some a)
+there [] i h = absurd (omega arith)
+there (x ∷ xs) zero h = (x, refl)
+there (x ∷ xs) (suc i) h = there xs i (omega arith)
+
+pub living-same : (l : List View) (i : ℕ) (v w : View) → get_elem? l i ≡ some v → w.spent ≡ v.spent → living (set l i w) ≡ living l
+living-same [] i v w h e = absurd (some-ne-none v (sym h))
+living-same (x ∷ xs) zero v w h e = ap (λ (b : Bool). cond b (living xs) (living xs + 1)) (e ∙ ap (λ (z : View). z.spent) (sym (some-injective x v h)))
+living-same (x ∷ xs) (suc i) v w h e = ap (λ (n : ℕ). cond x.spent n (n + 1)) (living-same xs i v w h e)
+
+pub living-less : (l : List View) (i : ℕ) (v w : View) → get_elem? l i ≡ some v → v.spent ≡ false → w.spent ≡ true → living (set l i w) + 1 ≡ living l
+living-less [] i v w h f t = absurd (some-ne-none v (sym h))
+living-less (x ∷ xs) zero v w h f t =
+    ap (λ (b : Bool). cond b (living xs) (living xs + 1) + 1) t ∙ sym (ap (λ (b : Bool). cond b (living xs) (living xs + 1)) (ap (λ (z : View). z.spent) (some-injective x v h) ∙ f))
+living-less (x ∷ xs) (suc i) v w h f t = let ih : living (set xs i w) + 1 ≡ living xs = living-less xs i v w h f t in
+    elim x.spent as (λ b. cond b (living (set xs i w)) (living (set xs i w) + 1) + 1 ≡ cond b (living xs) (living xs + 1)) [ true ↦ ih | false ↦ ap (λ (n : ℕ). n + 1) ih ]
+
+pub living-more : (l : List View) (w : View) → w.spent ≡ false → living (l ++ w ∷ []) ≡ living l + 1
+living-more [] w f = ap (λ (b : Bool). cond b 0 1) f
+living-more (x ∷ xs) w f = let ih : living (xs ++ w ∷ []) ≡ living xs + 1 = living-more xs w f in
+    elim x.spent as (λ b. cond b (living (xs ++ w ∷ [])) (living (xs ++ w ∷ []) + 1) ≡ cond b (living xs) (living xs + 1) + 1) [ true ↦ ih | false ↦ ap (λ (n : ℕ). n + 1) ih ]
+
+two : (b : Bool) → (b ≡ true) ⊎ (b ≡ false)
+two true = inl refl
+two false = inr refl
+
+none_alive : (l : List View) (i : ℕ) (v : View) → living l ≡ 0 → get_elem? l i ≡ some v → v.spent ≡ true
+none_alive [] i v z h = absurd (some-ne-none v (sym h))
+none_alive (x ∷ xs) zero v z h = ap (λ (y : View). y.spent) (sym (some-injective x v h)) ∙ ⊎_elim (λ e. e)
+    (λ e. let q : living xs + 1 ≡ 0 = sym (ap (λ (b : Bool). cond b (living xs) (living xs + 1)) e) ∙ z in absurd (omega arith)) (two x.spent)
+none_alive (x ∷ xs) (suc i) v z h = let n : ℕ = living xs in
+    none_alive xs i v (elim x.spent as (λ b. cond b n (n + 1) ≡ 0 → n ≡ 0) [ true ↦ λ q. q | false ↦ λ q. omega arith ] z) h
+
+-- where one alone lives and it is the first, each other one is spent
+pub one_alive : (l : List View) (x : View) (i : ℕ) (v : View) → get_elem? l 0 ≡ some x → x.spent ≡ false → living l ≡ 1 → 0 < i → get_elem? l i ≡ some v → v.spent ≡ true
+one_alive [] x i v f live z h g = absurd (some-ne-none v (sym g))
+one_alive (y ∷ ys) x zero v f live z h g = absurd (omega arith)
+one_alive (y ∷ ys) x (suc i) v f live z h g =
+    let e : y.spent ≡ false = ap (λ (u : View). u.spent) (some-injective y x f) ∙ live in
+    let q : living ys + 1 ≡ 1 = sym (ap (λ (b : Bool). cond b (living ys) (living ys + 1)) e) ∙ z in none_alive ys i v (omega arith) g
+
+pub stands : (words : List ℕ) (earlier later : Rows) (r : ℕ × Entry) → Legal words (earlier ++ r ∷ later) → r.1.old ≡ answer r.1.access (slice_index (replay words earlier) (place r.1.access))
+stands words [] later r l = l.0
+stands words (x ∷ xs) later r l = stands (after words x.1.access) xs later r l.1
+
+part-tail : (xs ys : Rows) (n : ℕ) → part n (xs ++ ys) ≡ [] → part n ys ≡ []
+part-tail [] ys n h = h
+part-tail (x ∷ xs) ys n h = part-tail xs ys n (elim (eqb x.0 n) as (λ b. cond b (x.1 ∷ part n (xs ++ ys)) (part n (xs ++ ys)) ≡ [] → part n (xs ++ ys) ≡ []) [ true ↦ λ q. cc | false ↦ λ q. q ] h)
+
+pub nothing_after : (earlier later : Rows) (r : ℕ × Entry) (n k : ℕ) → Before (earlier ++ r ∷ later) n k → r.0 ≡ 0 → k ≤ length (part 0 earlier) → part n (r ∷ later) ≡ []
+nothing_after [] later r n zero h z le = let t : eqb r.0 0 ≡ true = eq-eqb r.0 0 z in sym (ap (λ b. part n (cond b (r ∷ later) (late later zero))) t) ∙ h
+nothing_after [] later r n (suc k) h z le = absurd (omega arith)
+nothing_after (x ∷ xs) later r n zero h z le = let all : Rows = xs ++ r ∷ later in
+    elim (eqb x.0 0) as (λ b. part n (cond b (x ∷ all) (late all zero)) ≡ [] → part n (r ∷ later) ≡ [])
+    [ true ↦ λ g. part-tail (x ∷ xs) (r ∷ later) n g | false ↦ λ g. nothing_after xs later r n zero g z (omega arith) ] h
+nothing_after (x ∷ xs) later r n (suc k) h z le = let all : Rows = xs ++ r ∷ later in
+    elim (eqb x.0 0) as (λ b. part n (cond b (late all k) (late all (suc k))) ≡ [] → suc k ≤ length (cond b (x.1 ∷ part 0 xs) (part 0 xs)) → part n (r ∷ later) ≡ [])
+    [ true ↦ λ g l. nothing_after xs later r n k g z (omega arith) | false ↦ λ g l. nothing_after xs later r n (suc k) g z l ] h le

@@ -1,5 +1,5 @@
 -- A history: the accesses of all passes in one order, each with the number of the pass that made it.
-use Rattle.std.specs.Prelude.{◌≡◌, ℕ, zero, suc, ◌==◌, ◌<◌, cond, List, [], ◌∷◌, slice_index}
+use Rattle.std.specs.Prelude.{◌≡◌, ℕ, zero, suc, ◌==◌, cond, List, [], ◌∷◌, slice_index}
 use Rattle.co_words.specs.Words.{place, answer, after}
 use Rattle.co_shared.specs.declared.told.Entry.{Entry}
 

@@ -1,5 +1,5 @@
 -- What a pass has told, and what each step adds to it.
-use Rattle.std.specs.Prelude.{◌≡◌, ℕ, ◌+◌, true, false, List, [], ◌∷◌, ◌++◌, length}
+use Rattle.std.specs.Prelude.{◌≡◌, ℕ, ◌+◌, true, false, cond, List, [], ◌∷◌, ◌++◌, length}
 use mathlib.Core.Option.{some}
 use lib.ListN.{get_elem?}
 use Rattle.co_words.specs.declared.access.Access.{Access}
@@ -34,6 +34,13 @@ joined t u = record { number = t.number; list = t.list; splits = t.splits; ended
 abbrev pub AreDistinct : List Ended → Type 0
 AreDistinct es = (j k : ℕ) (a b : Ended) → get_elem? es j ≡ some a → get_elem? es k ≡ some b → a.number ≡ b.number → j ≡ k
 
+-- a pass with the number n ended
+pub record HasNumber (es : List Ended) (n : ℕ) : Type 0 where
+  pub at : ℕ
+  pub pass : Ended
+  pub there : get_elem? es at ≡ some pass
+  pub is : pass.number ≡ n
+
 -- what the rule keeps for a pass that lives, and for one that was joined into another
 abbrev pub here : Told → View
 here t = record { spent = false; told = t }
@@ -55,3 +62,8 @@ newer v = newcomer (v.told.splits + 1)
 
 abbrev pub taker : View → View → View
 taker v w = here (joined v.told w.told)
+
+-- how many passes live
+abbrev pub living : List View → ℕ
+living [] = 0
+living (v ∷ vs) = cond v.spent (living vs) (living vs + 1)

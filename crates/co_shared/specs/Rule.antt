@@ -1,5 +1,5 @@
 -- The rule of the shared words, and what each kind of access adds to a pass.
-use Rattle.std.specs.Prelude.{◌≡◌, ℕ, ◌+◌, ◌<◌, ◌≤◌, false, List, [], ◌∷◌, ◌++◌, length}
+use Rattle.std.specs.Prelude.{◌≡◌, ℕ, ◌+◌, ◌<◌, ◌≤◌, true, false, List, [], length}
 use mathlib.Core.Option.{some}
 use lib.ListN.{get_elem?}
 use Rattle.atomic_table.specs.Table.{State, Me, Step}
@@ -8,7 +8,7 @@ use Rattle.co_shared.specs.declared.told.Ended.{Ended}
 use Rattle.co_shared.specs.declared.told.Told.{Told}
 use Rattle.co_shared.specs.declared.told.View.{View}
 use Rattle.co_shared.specs.History.{Rows, Legal, replay, part, Before}
-use Rattle.co_shared.specs.Passes.{steps, here, gone, AreDistinct}
+use Rattle.co_shared.specs.Passes.{steps, here, gone, living, AreDistinct, HasNumber}
 
 -- an ended pass is not number 0, its list is its part of the history, and it stands before what number 0 did after the join
 pub record IsEnded (log : Rows) (e : Ended) : Type 0 where
@@ -30,6 +30,8 @@ pub record Kept (opening : List ℕ) (s : State (Unit {0}) View) : Type 0 where
   pub left : (k : ℕ) (e : Ended) → get_elem? main.ended k ≡ some e → get_elem? s.views e.number ≡ some gone
   pub ended : (k : ℕ) (e : Ended) → get_elem? main.ended k ≡ some e → IsEnded log e
   pub distinct : AreDistinct main.ended
+  pub spent : (i : ℕ) (v : View) → get_elem? s.views i ≡ some v → v.spent ≡ true → HasNumber main.ended i
+  pub alive : living s.views + length main.ended ≡ length s.views
 
 abbrev pub loads : Step (Unit {0}) → Me (Unit {0}) View → ℕ → Me (Unit {0}) View → Type 0
 loads st m r k = k ≡ (steps m.0 (Load st.word) r, m.1)

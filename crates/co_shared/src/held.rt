@@ -4,7 +4,8 @@ use crate::shared::{Pass, Shared};
 use co_words::Words;
 use std::marker::Model;
 
-/// The words of a `Shared` through one pass. One access is one atomic step, in the one order of all of them.
+/// The words of a `Shared` through one pass. One access is one atomic step, and all of them stand in one order, as
+/// memory_order::seq_cst asks ([atomics.order]).
 #[derive(Drop)]
 pub struct Held<'a> {
     shared: &'a Shared,

@@ -2,6 +2,7 @@
 #![tactic(auto)]
 
 mod held;
+mod laws;
 mod rule;
 mod shared;
 #[cfg(test)]
@@ -9,5 +10,6 @@ mod tests;
 mod told;
 
 pub use held::Held;
+pub use laws::{ended_passes_stand_before, old_words_stand};
 pub use shared::{Last, Pass, Shared};
 pub use told::{Ended, Entry, Told, View};

@@ -15,7 +15,7 @@ use std::alloc::Global;
 use std::marker::Model;
 use std::snapshot::Snapshot;
 
-/// Words that several threads read and write, seen as what they were when it was made. `Pass`es give leave to.
+/// Words that several threads read and write, each through a pass of its own, seen as what they were at the start.
 #[derive(Drop)]
 pub struct Shared {
     table: Table<(), View, Snapshot<VecWords>, OneHistory, Global>,
@@ -59,7 +59,8 @@ pub struct Last {
 }
 
 impl Shared {
-    /// Words that begin as these, and the pass with number 0.
+    /// Words that begin as these, and the pass with number 0. `NoMemory` where there is no room for them; no other
+    /// call here takes memory.
     pub fn new(alloc: Global, words: &[u64]) -> Result<(Shared, Pass), NoMemory>
         requires { 1 ≤ length words.now }
         ensures { IfOk result (λ r. (r.0.opening ≡ words.now) × (r.1 ≡ sight r.0.id (fresh 0))) }
@@ -121,9 +122,7 @@ impl Shared {
         requires { (pass.old.id ≡ self.now.id) × (at < length self.now.opening) }
         ensures { pass.new ≡ advanced pass.old (Load at) result }
     {
-        self.table
-            .shared
-            .load::<Loads>(&mut pass.seat, at as usize)
+        self.table.shared.load::<Loads>(&mut pass.seat, at as usize)
     }
 
     pub(crate) fn store(&self, pass: &mut Pass, at: u64, v: u64)

@@ -1,5 +1,4 @@
 use Rattle.std.proofs.Common.{rules}
-use Rattle.co_words.specs.declared.access.Access.TheVariants.{Load, Store, Swap, Add, Cas}
 use Rattle.co_shared.proofs.Keeps.{joins}
 use Rattle.co_shared.proofs.shared.Shared.join.Goals as goal
 

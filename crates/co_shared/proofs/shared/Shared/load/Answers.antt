@@ -1,5 +1,5 @@
 use Rattle.std.proofs.Common.{rules}
-use Rattle.co_words.specs.declared.access.Access.TheVariants.{Load, Store, Swap, Add, Cas}
+use Rattle.co_words.specs.declared.access.Access.TheVariants.{Load}
 use Rattle.co_shared.proofs.Keeps.{takes}
 use Rattle.co_shared.proofs.shared.Shared.load.Goals as goal
 
