@@ -27,17 +27,17 @@ module _ (cs : List FuncInfo) (args : List Arg) where
   none_step n false e held = below_more (λ k. viable_at cs args k ≡ false) n held e
 
   some_step : (n old : ℕ) (v b : Bool) → n < length cs → viable_at cs args n ≡ v → better_at cs args n old ≡ b → IsHeld cs args n (Some old) →
-    IsHeld cs args (n + 1) (if v then (if b then Some n else Some old) else Some old)
+      IsHeld cs args (n + 1) (if v then (if b then Some n else Some old) else Some old)
   some_step n old false b within ev eb held =
       (omega (arith, held.0), held.1, below_more (λ k. IsBest cs args k → k ≡ old) n held.2 (λ best. absurd (clash (viable_at cs args n) best.viable ev)))
   some_step n old true true within ev eb held =
       (omega arith, ev, below_more (λ k. IsBest cs args k → k ≡ n) n (λ k lt best. absurd (beaten k lt best)) (λ best. refl)) where
-    beaten : (k : ℕ) → k < n → IsBest cs args k → ⊥
-    beaten k lt best =
-        let same : k ≡ old = held.2 k lt best in
-        let other : n ≢ k = omega (arith, lt) in
-        let won : better_at cs args k n ≡ true = best.better n within other ev in
-        one_better args (slice_get cs n) (slice_get cs old) eb (subst (λ x. better_at cs args x n ≡ true) same won)
+        beaten : (k : ℕ) → k < n → IsBest cs args k → ⊥
+        beaten k lt best =
+            let same : k ≡ old = held.2 k lt best in
+            let other : n ≢ k = omega (arith, lt) in
+            let won : better_at cs args k n ≡ true = best.better n within other ev in
+            one_better args (slice_get cs n) (slice_get cs old) eb (subst (λ x. better_at cs args x n ≡ true) same won)
   some_step n old true false within ev eb held =
       (omega (arith, held.0), held.1, below_more (λ k. IsBest cs args k → k ≡ old) n held.2 (λ best. absurd (clash (better_at cs args n old) (best.better old (omega (arith, within, held.0)) (omega (arith, held.0)) held.1) eb)))
 

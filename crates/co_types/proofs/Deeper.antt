@@ -32,7 +32,7 @@ and_true true = refl
 and_true false = refl
 
 made : (p q r s p' q' r' s' : Bool) → p ≡ p' → q ≡ q' → r ≡ r' → s ≡ s' →
-  both all_allowed (record { can_default = p; can_copy = q; can_move = r; trivial_end = s }) ≡ record { can_default = p'; can_copy = q'; can_move = r'; trivial_end = s' }
+    both all_allowed (record { can_default = p; can_copy = q; can_move = r; trivial_end = s }) ≡ record { can_default = p'; can_copy = q'; can_move = r'; trivial_end = s' }
 made p q r s p' q' r' s' d e f g = cc
 
 pub both_all : (a : Allowed) → both a all_allowed ≡ a
@@ -44,16 +44,16 @@ pub both_first : (a : Allowed) → both all_allowed a ≡ a
 both_first a = refl
 
 pub found_step : (depth : ℕ) (classes : List ClassInfo) (class : ClassId) (info : ClassInfo) (fields : List FieldInfo) (allowed : Allowed) (result : Specials) →
-  depth ≢ 0 → Some info ≡ slice_get classes class.0 → fields ≡ info.fields →
-  allowed ≡ all_allow (λ c. special_within (depth - 1) classes c) fields → result ≡ with_fields class info allowed →
-  result ≡ special_within depth classes class
+    depth ≢ 0 → Some info ≡ slice_get classes class.0 → fields ≡ info.fields →
+    allowed ≡ all_allow (λ c. special_within (depth - 1) classes c) fields → result ≡ with_fields class info allowed →
+    result ≡ special_within depth classes class
 found_step depth classes class info fields allowed result some found same allows is =
     is ∙ ap (λ a. with_fields class info a) (allows ∙ ap (λ fs. all_allow (λ c. special_within (depth - 1) classes c) fs) same)
     ∙ ap (λ o. in_class (λ c. special_within (depth - 1) classes c) class o) found ∙ sym (deeper depth classes class some)
 
 pub allow_step : (f : ClassId → Specials) (rest : List FieldInfo) (x : FieldInfo) (allowed one new whole : Allowed) →
-  1 ≤ length rest → x ≡ get_or rest 0 x → one ≡ field_allows f x → new ≡ both allowed one → both allowed (all_allow f rest) ≡ whole →
-  both new (all_allow f (take (length rest - 1) (drop 1 rest))) ≡ whole
+    1 ≤ length rest → x ≡ get_or rest 0 x → one ≡ field_allows f x → new ≡ both allowed one → both allowed (all_allow f rest) ≡ whole →
+    both new (all_allow f (take (length rest - 1) (drop 1 rest))) ≡ whole
 allow_step f [] x allowed one new whole some is e n h = absurd (omega (arith, some))
 allow_step f (y ∷ ys) x allowed one new whole some is e n h =
     let count : length (y ∷ ys) - 1 ≡ length ys = omega arith in

@@ -34,14 +34,14 @@ module _ (classes : List ClassInfo) where
       one_class (λ c. special_within m classes c) (λ c. special_within n classes c) (λ c. IsNested n classes c) (λ c q. deep n m c less q) class (slice_get classes class.0) p
 
   at_length : (n : ℕ) (class : ClassId) (info : ClassInfo) → IsNested n classes class → slice_get classes class.0 ≡ Some info →
-    special_within n classes class ≡ with_fields class info (all_allow (λ c. special_within n classes c) info.fields)
+      special_within n classes class ≡ with_fields class info (all_allow (λ c. special_within n classes c) info.fields)
   at_length zero class info p e = absurd p
   at_length (suc n) class info p e =
       ap (λ o. in_class (λ c. special_within n classes c) class o) e
       ∙ ap (λ a. with_fields class info a)
-        (all_fields (λ c. special_within n classes c) (λ c. special_within (suc n) classes c) (λ c. IsNested n classes c) (λ c q. sym (deep n (suc n) c (omega arith) q)) info.fields
-         (subst (λ o. InFields (λ c. IsNested n classes c) o) e p))
+      (all_fields (λ c. special_within n classes c) (λ c. special_within (suc n) classes c) (λ c. IsNested n classes c) (λ c q. sym (deep n (suc n) c (omega arith) q)) info.fields
+      (subst (λ o. InFields (λ c. IsNested n classes c) o) e p))
 
   pub recurs : (class : ClassId) (info : ClassInfo) → IsNested (length classes) classes class → slice_get classes class.0 ≡ Some info →
-    special classes class ≡ with_fields class info (all_allow (λ c. special classes c) info.fields)
+      special classes class ≡ with_fields class info (all_allow (λ c. special classes c) info.fields)
   recurs class info p e = at_length (length classes) class info p e

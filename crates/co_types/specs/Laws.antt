@@ -16,4 +16,4 @@ ChoosesOnce = (candidates : List FuncInfo) (args : List Arg) (x y : Choice) → 
 -- of which it contains an object contains itself, so that objects lie in one another no deeper than there are classes.
 abbrev pub SpecialRecurs : Type 0
 SpecialRecurs = (classes : List ClassInfo) (class : ClassId) (info : ClassInfo) → IsNested (length classes) classes class →
-  slice_get classes class.0 ≡ Some info → special classes class ≡ with_fields class info (all_allow (λ c. special classes c) info.fields)
+    slice_get classes class.0 ≡ Some info → special classes class ≡ with_fields class info (all_allow (λ c. special classes c) info.fields)

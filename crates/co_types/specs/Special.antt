@@ -130,7 +130,7 @@ with_fields class info allowed = record {
   can_copy = copies class info member.Copy allowed.can_copy;
   can_move = moves class info allowed;
   trivial_end = ends class info allowed.trivial_end;
-  aggregate = not (declares class info member.Constructor)
+  aggregate = not (declares class info member.Constructor);
 }
 
 -- ---- the classes of a table

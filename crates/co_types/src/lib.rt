@@ -11,10 +11,10 @@ mod table;
 mod tests;
 mod types;
 
-pub use overloads::{Arg, ArgKind, Choice, Rank, choose, conversion};
 pub use classes::{AliasInfo, ClassInfo, FieldInfo, FuncInfo};
 pub use laws::{chooses_once, special_recurs};
 pub use members::{Found, find_member};
+pub use overloads::{Arg, ArgKind, Choice, Rank, choose, conversion};
 pub use specials::{Specials, special};
 pub use table::ClassTable;
 pub use types::{CoType, Head, is_same};

@@ -78,7 +78,11 @@ fn special_within(table: &ClassTable, class: ClassId, depth: u32) -> Specials
         return NOTHING;
     }
     match table.get(class) {
-        Some(info) => of_class(class, info, fields_allow(table, info.fields.as_slice(), depth - 1)),
+        Some(info) => of_class(
+            class,
+            info,
+            fields_allow(table, info.fields.as_slice(), depth - 1),
+        ),
         None => NOTHING,
     }
 }
@@ -179,7 +183,8 @@ fn moves(class: ClassId, info: &ClassInfo, allowed: Allowed) -> bool
     if declares(class, info, Member::Move) {
         offers(class, info, Member::Move, allowed.can_move)
     } else {
-        moves_by_fields(class, info, allowed.can_move) || copies(class, info, Member::ConstCopy, allowed.can_copy)
+        moves_by_fields(class, info, allowed.can_move)
+            || copies(class, info, Member::ConstCopy, allowed.can_copy)
     }
 }
 
@@ -251,7 +256,8 @@ fn is_named(class: &[u8], kind: Member, name: &[u8]) -> bool
     ensures { result ≡ spec.names class.now kind name.now }
 {
     match kind {
-        Member::Constructor | Member::Default | Member::Copy | Member::ConstCopy | Member::Move => name == class,
+        Member::Constructor | Member::Default | Member::Copy | Member::ConstCopy | Member::Move =>
+            name == class,
         Member::Destructor | Member::WrittenDestructor => is_destructor(class, name),
     }
 }
@@ -263,7 +269,8 @@ fn fits(class: ClassId, kind: Member, func: &FuncInfo) -> bool
     match kind {
         Member::Constructor | Member::Destructor => true,
         Member::Default => params.is_empty(),
-        Member::Copy => takes_one(class, Head::Ref, params) || takes_one(class, Head::ConstRef, params),
+        Member::Copy => takes_one(class, Head::Ref, params)
+            || takes_one(class, Head::ConstRef, params),
         Member::ConstCopy => takes_one(class, Head::ConstRef, params),
         Member::Move => takes_one(class, Head::RefRef, params),
         Member::WrittenDestructor => !func.is_defaulted,

@@ -1,4 +1,7 @@
-use crate::{Arg, ArgKind, Choice, ClassInfo, ClassTable, CoType, FieldInfo, Found, FuncInfo, Specials, choose, find_member, special};
+use crate::{
+    Arg, ArgKind, Choice, ClassInfo, ClassTable, CoType, FieldInfo, Found, FuncInfo, Specials,
+    choose, find_member, special,
+};
 use co_base::{AtomicKind, ClassId, FuncId, NoMemory, Num, Span, Text};
 use sqlite_items::{Boxed, Items};
 use std::alloc::Global;
@@ -64,6 +67,8 @@ const CLASSES: [(&[u8], &[u8], &[u8]); 12] = [
     (b"", b"to", b"01010"),
     (b"4,", b"", b"00111"),
 ];
+
+const NAMES: [&[u8]; 5] = [b"T", b"f", b"g", b"f", b"~T"];
 
 /// The type with one more letter of its spelling.
 fn grown(alloc: Global, of: CoType, letter: u8) -> Result<CoType, NoMemory> {
@@ -201,7 +206,11 @@ fn members(alloc: Global, class: u32, text: &[u8]) -> Result<Items<FuncInfo>, No
     let mut funcs = Items::new(alloc);
     for byte in text {
         let letter = *byte;
-        let name: &[u8] = if letter == b'e' || letter == b'E' { b"~T" } else { b"T" };
+        let name: &[u8] = if letter == b'e' || letter == b'E' {
+            b"~T"
+        } else {
+            b"T"
+        };
         let mut made = func(alloc, name, own(alloc, class, letter)?)?;
         made.is_deleted = letter == b'x';
         made.is_defaulted = letter < b'a';
@@ -256,7 +265,7 @@ fn specials_are_those_of_the_compilers(rt: HostRuntime) -> Result<(), Fail> {
 fn members_are_found_by_name(rt: HostRuntime) -> Result<(), Fail> {
     let mut table = ClassTable::new(rt.alloc());
     let mut funcs = Items::new(rt.alloc());
-    for name in [b"T".as_slice(), b"f", b"g", b"f", b"~T"] {
+    for name in NAMES {
         funcs.push(func(rt.alloc(), name, Items::new(rt.alloc()))?)?;
     }
     let info = class_of(rt.alloc(), b"i,l,", funcs)?.copy(rt.alloc())?;
