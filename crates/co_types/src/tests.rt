@@ -162,6 +162,7 @@ fn arguments(alloc: Global, text: &[u8]) -> Result<Items<Arg>, NoMemory> {
 fn choices_are_those_of_the_compilers(rt: HostRuntime) -> Result<(), Fail> {
     for (funcs, args, choice) in CHOICES {
         let funcs = candidates(rt.alloc(), funcs)?;
+        assert!(rt; funcs.len() < 100);
         let args = arguments(rt.alloc(), args)?;
         assert!(rt; choose(funcs.as_slice(), args.as_slice()) == choice);
     }
