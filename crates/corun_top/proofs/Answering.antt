@@ -7,7 +7,7 @@ use Rattle.std.specs.String.{string_bytes}
 use Rattle.std.specs.declared.alloc.Global.{Global}
 use Rattle.co_base.specs.Outside.{HoldsFirst}
 use Rattle.co_base.specs.declared.kinds.Counts.{Counts}
-use Rattle.co_parse.specs.Grammar.{IsFile}
+use Rattle.co_first_parse.specs.Grammar.{IsFile}
 use Rattle.co_first_exec.specs.declared.instr.Stop.{Stop}
 use Rattle.co_first_exec.specs.declared.local.Local.{Local}
 use Rattle.corun_top.specs.declared.answer.Answer.{Answer}

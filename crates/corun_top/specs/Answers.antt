@@ -2,12 +2,12 @@
 use Rattle.std.specs.Prelude.{◌≡◌, ℕ, List, [], ◌∷◌, Option, IfSome}
 use Rattle.co_base.specs.Outside.{HasRisen}
 use Rattle.co_base.specs.declared.kinds.Counts.{Counts}
-use Rattle.co_tree.specs.declared.tree.Program.{Program}
-use Rattle.co_parse.specs.Grammar.{IsFile}
+use Rattle.co_first_tree.specs.declared.tree.Program.{Program}
+use Rattle.co_first_parse.specs.Grammar.{IsFile}
 use Rattle.co_first_exec.specs.declared.instr.Stop.{Stop}
 use Rattle.co_first_exec.specs.declared.instr.Stop.TheVariants as stop
 use Rattle.co_first_exec.specs.declared.local.Local.{Local}
-use Rattle.co_faithful.specs.Faithful.{Ran}
+use Rattle.co_first_faithful.specs.Faithful.{Ran}
 use Rattle.corun_top.specs.declared.answer.TheConstants.{BUDGET}
 use Rattle.corun_top.specs.declared.answer.Answer.{Answer}
 use Rattle.corun_top.specs.declared.answer.Answer.TheVariants.{Ran as RanTo, Says}

@@ -9,9 +9,9 @@ use crate::end::End;
 use crate::status::{Refusal, Status};
 use crate::words::first_bad;
 use co_base::{Counts, Files, ReadFault, Span, read_all};
-use co_faithful::run_program;
+use co_first_faithful::run_program;
 use co_first_exec::{Local, Stop};
-use co_parse::{ParseFault, parse};
+use co_first_parse::{ParseFault, parse};
 use std::alloc::Global;
 
 // A file may have 1,048,576 bytes: one more is read, and what has it is no file of the form.

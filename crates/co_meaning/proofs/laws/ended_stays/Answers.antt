@@ -1,5 +1,0 @@
-use Rattle.co_meaning.proofs.Runs.{stays}
-use Rattle.co_meaning.proofs.laws.ended_stays.Goals as goal
-
-pub returns : goal.returns
-returns c = stays

@@ -1,5 +1,0 @@
-use Rattle.co_meaning.proofs.Runs.{grows}
-use Rattle.co_meaning.proofs.laws.prints_grow.Goals as goal
-
-pub returns : goal.returns
-returns c = grows
