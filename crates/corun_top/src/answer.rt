@@ -9,8 +9,8 @@ use crate::end::End;
 use crate::status::{Refusal, Status};
 use crate::words::first_bad;
 use co_base::{Counts, Files, ReadFault, Span, read_all};
-use co_first_faithful::run_program;
 use co_first_exec::{Local, Stop};
+use co_first_faithful::run_program;
 use co_first_parse::{ParseFault, parse};
 use std::alloc::Global;
 
