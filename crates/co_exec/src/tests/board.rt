@@ -47,12 +47,22 @@ fn posts(rt: HostRuntime) -> Result<(), Fail> {
     let image = image_of(rt.alloc(), &[])?;
     let mut local = Local::new(rt.alloc(), &image, &LIMITS, 1)?;
     let mut words = full(rt.alloc())?;
-    assert!(rt; matches!(post_all(&mut local, &mut words, 70000), (65534, Posted::Done)));
+    assert!(rt;
+        matches!(
+            post_all(&mut local, &mut words, 70000),
+            (65534, Posted::Done)
+        )
+    );
     assert_eq!(rt; words.load(16 + 65534), 70000);
     words.store(16 + 2, 0);
     assert!(rt; matches!(post_all(&mut local, &mut words, 70001), (3, Posted::Done)));
     assert_eq!(rt; words.load(16 + 2), 70001);
-    assert!(rt; matches!(post_all(&mut local, &mut words, 70002), (65535, Posted::Full)));
+    assert!(rt;
+        matches!(
+            post_all(&mut local, &mut words, 70002),
+            (65535, Posted::Full)
+        )
+    );
     Ok(())
 }
 
