@@ -1,5 +1,5 @@
 -- The listing of an image: one line per instruction.
-use Rattle.std.specs.Prelude.{ℕ, ◌+◌, ◌≡◌, ◌==◌, List, [], ◌∷◌, ◌++◌, length, codes, decimal, count_by}
+use Rattle.std.specs.Prelude.{ℕ, ◌+◌, List, [], ◌∷◌, ◌++◌, codes, decimal}
 use Rattle.std.specs.Fmt.{signed_decimal}
 use Rattle.co_base.specs.declared.kinds.AtomicKind.{AtomicKind}
 use Rattle.co_base.specs.declared.kinds.AtomicKind.TheVariants as atomic

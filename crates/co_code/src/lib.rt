@@ -3,8 +3,11 @@
 
 mod image;
 mod instr;
+pub mod laws;
 mod listing;
 mod listing_lines;
+#[cfg(test)]
+mod tests;
 
 pub use image::{FuncCode, Image, PointCode, RowCode, RowKind};
 pub use instr::{Instr, Register, ThrownKind};

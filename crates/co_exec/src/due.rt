@@ -13,7 +13,8 @@ use co_machine::{Control, Due, Limits, Next, StopKind, Tally};
 const UNLAWFUL: Due = Due::Meet(StopKind::Undefined(Undef::U12, NOWHERE));
 
 // An access to the word at a.
-fn reach_a(limits: Limits, k: &Control, at: Span, instr: Instr) -> Due
+#[inline(always)]
+pub(crate) fn reach_a(limits: Limits, k: &Control, at: Span, instr: Instr) -> Due
     requires place { k.now.pc < 4294967295 }
     requires room { HasRoom instr k.now }
     requires to { IsTo (ask_of instr k.now) k.now.registers.a }
@@ -28,7 +29,8 @@ fn reach_a(limits: Limits, k: &Control, at: Span, instr: Instr) -> Due
 }
 
 // An access to the word at b.
-fn reach_b(limits: Limits, k: &Control, at: Span, instr: Instr) -> Due
+#[inline(always)]
+pub(crate) fn reach_b(limits: Limits, k: &Control, at: Span, instr: Instr) -> Due
     requires place { k.now.pc < 4294967295 }
     requires room { HasRoom instr k.now }
     requires to { IsTo (ask_of instr k.now) k.now.registers.b }
@@ -43,7 +45,8 @@ fn reach_b(limits: Limits, k: &Control, at: Span, instr: Instr) -> Due
 }
 
 // What a test of the instruction's own stack decides: so many words below sp.
-fn below_top(n: u32, limits: Limits, k: &Control, at: Span, instr: Instr) -> Due
+#[inline(always)]
+pub(crate) fn below_top(n: u32, limits: Limits, k: &Control, at: Span, instr: Instr) -> Due
     requires place { k.now.pc < 4294967295 }
     requires room { HasRoom instr k.now }
     requires within { IsWithin (ask_of instr k.now) limits.words }
@@ -72,7 +75,8 @@ fn print_due(limits: Limits, k: &Control, instr: Instr) -> Due
 }
 
 // The resume or the destroy of the coroutine of the handle a.
-fn resume_due(limits: Limits, k: &Control, at: Span, instr: Instr) -> Due
+#[inline(always)]
+pub(crate) fn resume_due(limits: Limits, k: &Control, at: Span, instr: Instr) -> Due
     requires place { k.now.pc < 4294967295 }
     requires room { length k.now.below < 1023 → HasRoom instr k.now }
     requires to { IsTo (ask_of instr k.now) k.now.registers.a }
@@ -96,7 +100,8 @@ fn resume_due(limits: Limits, k: &Control, at: Span, instr: Instr) -> Due
 }
 
 // An instruction that null in a refuses.
-fn not_null(limits: Limits, k: &Control, u: Undef, at: Span, due: Due) -> Due
+#[inline(always)]
+pub(crate) fn not_null(limits: Limits, k: &Control, u: Undef, at: Span, due: Due) -> Due
     requires ready { IsReady due k.now }
     requires within { IsWithin (ask_due due k.now) limits.words }
     ensures meaning { result ≡ check.not_null k.now.registers.a u at due }
@@ -109,7 +114,8 @@ fn not_null(limits: Limits, k: &Control, u: Undef, at: Span, due: Due) -> Due
     due
 }
 
-fn push_due(limits: Limits, k: &Control, at: Span) -> Due
+#[inline(always)]
+pub(crate) fn push_due(limits: Limits, k: &Control, at: Span) -> Due
     requires { k.now.pc < 4294967295 }
     ensures meaning { result ≡ check.above_top 1 k.now (check.reaching limits k.now.sp at (Due.Do Instr.Push)) }
     ensures ready { IsReady result k.now }
@@ -124,7 +130,8 @@ fn push_due(limits: Limits, k: &Control, at: Span) -> Due
     Due::Do(Instr::Push)
 }
 
-fn pop_due(to: Register, limits: Limits, k: &Control, at: Span) -> Due
+#[inline(always)]
+pub(crate) fn pop_due(to: Register, limits: Limits, k: &Control, at: Span) -> Due
     requires { k.now.pc < 4294967295 }
     ensures meaning { result ≡ check.below_top 1 k.now at (check.reaching limits (k.now.sp - 1) at (Due.Do (Instr.Pop to))) }
     ensures ready { IsReady result k.now }
@@ -163,6 +170,7 @@ fn begin_due(place: u32, limits: Limits, k: &Control) -> Due
     Due::Do(Instr::Begin(place))
 }
 
+#[inline(always)]
 fn call_due(entry: u32, words: u32, limits: Limits, k: &Control) -> Due
     requires { k.now.pc < 4294967295 }
     ensures meaning { result ≡ check.entering k.now (check.above_top words k.now (Due.Call entry words)) }
@@ -178,7 +186,8 @@ fn call_due(entry: u32, words: u32, limits: Limits, k: &Control) -> Due
     Due::Call(entry, words)
 }
 
-fn calling(image: &Image, n: u32, limits: Limits, k: &Control) -> Due
+#[inline(always)]
+pub(crate) fn calling(image: &Image, n: u32, limits: Limits, k: &Control) -> Due
     requires { k.now.pc < 4294967295 }
     ensures meaning { result ≡ check.calling (slice_get image.now.funcs n) k.now }
     ensures ready { IsReady result k.now }
@@ -190,6 +199,7 @@ fn calling(image: &Image, n: u32, limits: Limits, k: &Control) -> Due
     }
 }
 
+#[inline(always)]
 fn return_due(limits: Limits, k: &Control, at: Span) -> Due
     requires { k.now.pc < 4294967295 }
     ensures meaning { result ≡ check.returning k.now at }
@@ -202,7 +212,8 @@ fn return_due(limits: Limits, k: &Control, at: Span) -> Due
     Due::Do(Instr::Ret)
 }
 
-fn ret_due(limits: Limits, k: &Control, at: Span) -> Due
+#[inline(always)]
+pub(crate) fn ret_due(limits: Limits, k: &Control, at: Span) -> Due
     requires { k.now.pc < 4294967295 }
     ensures meaning { result ≡ check.not_parked k.now at (check.returning k.now at) }
     ensures ready { IsReady result k.now }
@@ -214,7 +225,8 @@ fn ret_due(limits: Limits, k: &Control, at: Span) -> Due
     return_due(limits, k, at)
 }
 
-fn await_void_due(limits: Limits, k: &Control, at: Span) -> Due
+#[inline(always)]
+pub(crate) fn await_void_due(limits: Limits, k: &Control, at: Span) -> Due
     requires { k.now.pc < 4294967295 }
     ensures meaning { result ≡ check.parked k.now at (check.returning k.now at) }
     ensures ready { IsReady result k.now }
@@ -259,7 +271,8 @@ fn unpark_due(limits: Limits, k: &Control, at: Span) -> Due
     Due::Do(Instr::Unpark)
 }
 
-fn await_handle_due(limits: Limits, k: &Control, at: Span) -> Due
+#[inline(always)]
+pub(crate) fn await_handle_due(limits: Limits, k: &Control, at: Span) -> Due
     requires { k.now.pc < 4294967295 }
     ensures meaning { result ≡ check.parked k.now at (check.not_null k.now.registers.a Undef.U4 at (check.unless_noop k.now.registers.a (check.returning k.now at) (check.reaching limits k.now.registers.a at (Due.Do Instr.AwaitHandle)))) }
     ensures ready { IsReady result k.now }
@@ -324,6 +337,7 @@ fn give_due(limits: Limits, k: &Control, at: Span) -> Due
     Due::Do(Instr::Give)
 }
 
+#[inline(always)]
 fn park_due(point: PointCode, n: u32, limits: Limits, k: &Control, at: Span) -> Due
     requires { k.now.pc < 4294967295 }
     ensures meaning { result ≡ check.suspending (Some point) n limits k.now at }
@@ -336,7 +350,8 @@ fn park_due(point: PointCode, n: u32, limits: Limits, k: &Control, at: Span) -> 
     Due::Park(state_word(k.top.serial, n, point.resume == point.cleanup))
 }
 
-fn suspend_due(image: &Image, n: u32, limits: Limits, k: &Control, at: Span) -> Due
+#[inline(always)]
+pub(crate) fn suspend_due(image: &Image, n: u32, limits: Limits, k: &Control, at: Span) -> Due
     requires { k.now.pc < 4294967295 }
     ensures meaning { result ≡ check.suspending (slice_get image.now.points n) n limits k.now at }
     ensures ready { IsReady result k.now }
@@ -348,7 +363,8 @@ fn suspend_due(image: &Image, n: u32, limits: Limits, k: &Control, at: Span) -> 
     }
 }
 
-fn global_due(image: &Image, n: u32, limits: Limits, k: &Control) -> Due
+#[inline(always)]
+pub(crate) fn global_due(image: &Image, n: u32, limits: Limits, k: &Control) -> Due
     requires { k.now.pc < 4294967295 }
     ensures meaning { result ≡ if nat_lt n (length image.now.globals) then Due.Do (Instr.Global n) else check.unlawful }
     ensures ready { IsReady result k.now }

@@ -16,6 +16,7 @@ use co_exec_rows::values::{
 use co_machine::{Control, Due, Going, Limits, Next, StopKind};
 
 /// What is due, whose access found the word `old`.
+#[inline(always)]
 pub fn effect(image: &Image, inputs: &[i64], limits: Limits, due: Due, k: &mut Control, old: u64)
     requires { IsReady due k.old }
     ensures { k.new ≡ effect.effect image.now inputs.now limits due k.old old }
@@ -87,6 +88,7 @@ fn resume(image: &Image, destroys: bool, at: Span, k: &mut Control, old: u64)
     entries::resume(found, k.pc + 1, k.registers.a, old, at, k);
 }
 
+#[inline(always)]
 fn transfer(image: &Image, at: Span, k: &mut Control, old: u64)
     ensures { k.new ≡ effect.transferred (effect.woken image.now.points false old) k.old.registers.a old at k.old }
 {
@@ -94,6 +96,7 @@ fn transfer(image: &Image, at: Span, k: &mut Control, old: u64)
     entries::transfer(found, k.registers.a, old, at, k);
 }
 
+#[inline(always)]
 fn move_register(to: Register, from: Register, k: &mut Control)
     requires { k.old.pc < 4294967295 }
     ensures { k.new ≡ effect.moved to from k.old }
@@ -102,6 +105,7 @@ fn move_register(to: Register, from: Register, k: &mut Control)
     set_registers(r, k);
 }
 
+#[inline(always)]
 fn pop(to: Register, k: &mut Control, old: u64)
     requires { k.old.pc < 4294967295 }
     ensures { k.new ≡ effect.popped to k.old old }
@@ -111,6 +115,7 @@ fn pop(to: Register, k: &mut Control, old: u64)
     k.pc += 1;
 }
 
+#[inline(always)]
 fn branch(place: u32, k: &mut Control)
     requires { k.old.pc < 4294967295 }
     ensures { k.new ≡ effect.branched place k.old }
@@ -154,6 +159,7 @@ fn set_b(n: u64, k: &mut Control)
 }
 
 // One instruction, whose access found the word `old`; `at` is its place in the file.
+#[inline(always)]
 fn perform(
     image: &Image,
     inputs: &[i64],

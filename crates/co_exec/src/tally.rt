@@ -6,6 +6,7 @@ use co_code::Instr;
 use co_machine::{Due, Limits, Looked, Tally};
 
 // Each instruction is counted.
+#[inline(always)]
 fn count(t: &mut Tally, limits: Limits)
     requires steady { IsSteady limits t.old }
     requires allowed { t.old.instructions < limits.budget }
@@ -15,6 +16,7 @@ fn count(t: &mut Tally, limits: Limits)
     t.since += 1;
 }
 
+#[inline(always)]
 fn count_with(instr: Instr, t: &mut Tally, limits: Limits)
     requires steady { IsSteady limits t.old }
     requires allowed { t.old.instructions < limits.budget }
@@ -30,6 +32,7 @@ fn count_with(instr: Instr, t: &mut Tally, limits: Limits)
     }
 }
 
+#[inline(always)]
 fn load_stop(old: u64, t: &mut Tally)
     ensures { t.new ≡ turn.loaded_stop old t.old }
 {
@@ -38,6 +41,7 @@ fn load_stop(old: u64, t: &mut Tally)
     }
 }
 
+#[inline(always)]
 fn look_round(seen: Looked, t: &mut Tally)
     requires { t.old.idles < 4294967296 }
     ensures { t.new ≡ turn.looked_round seen t.old }
@@ -50,6 +54,7 @@ fn look_round(seen: Looked, t: &mut Tally)
 }
 
 /// The counts after what is due, whose access found the word `old`; `seen` is what a look's cell answers.
+#[inline(always)]
 pub fn tally(due: Due, seen: Looked, old: u64, t: &mut Tally, limits: Limits)
     requires steady { IsSteady limits t.old }
     requires allowed { IsAllowed due limits t.old }

@@ -1,11 +1,14 @@
 //! Hand-assembled images: what each instruction prints and where it stops, by the table in `docs/MACHINE.md`.
 ghost use Rattle.std.specs.Prelude.{◌≡◌, ◌≤◌, IfOk, length};
 
-use crate::exec::{exec_one, look, post};
+mod board;
+mod limits;
+
+use crate::exec::exec_one;
 use crate::local::Local;
 use co_base::{AtomicKind, CatchOf, NoMemory, Num, Op, Print, Span, Text};
 use co_code::{FuncCode, Image, Instr, PointCode, Register, RowCode, RowKind, ThrownKind};
-use co_machine::{Limits, Looked, Posted, StopKind, Turn};
+use co_machine::{Limits, StopKind, Turn};
 use co_words::VecWords;
 use sqlite_items::Items;
 use std::alloc::Global;
@@ -35,7 +38,7 @@ const B: Register = Register::B;
 
 const C: Register = Register::C;
 
-static ROWS: [Row; 55] = [
+static ROWS: [Row; 57] = [
     Row {
         code: &[Instr::Const(7), Instr::Print, Instr::MainRet],
         prints: &[7],
@@ -465,6 +468,35 @@ static ROWS: [Row; 55] = [
     },
     Row {
         code: &[
+            Instr::Slot(0),
+            Instr::Begin(4),
+            Instr::Print,
+            Instr::MainRet,
+            Instr::Suspend(0),
+            Instr::Unpark,
+            Instr::Const(9),
+            Instr::Ret,
+        ],
+        prints: &[9],
+        end: 0,
+    },
+    Row {
+        code: &[
+            Instr::Slot(0),
+            Instr::Begin(4),
+            Instr::Print,
+            Instr::MainRet,
+            Instr::Suspend(0),
+            Instr::AtSlot(0),
+            Instr::Const(0),
+            Instr::Store(Num::Long),
+            Instr::Unpark,
+        ],
+        prints: &[],
+        end: 1,
+    },
+    Row {
+        code: &[
             Instr::Const(6),
             Instr::Resume,
             Instr::Done,
@@ -546,7 +578,7 @@ static ROWS: [Row; 55] = [
             Instr::Ended,
             Instr::Born,
             Instr::Died,
-            Instr::Lit(0),
+            Instr::Lit(1),
         ],
         prints: &[],
         end: 12,
@@ -603,11 +635,13 @@ fn image_of(alloc: Global, code: &[Instr]) -> Result<Image, NoMemory> {
     let globals = Items::from_slice(alloc, &[0])?;
     let spans: [Span; 1] = [Span { line: 1, col: 1 }];
     let spans = Items::from_slice(alloc, &spans)?;
+    let mut texts = Items::new(alloc);
+    texts.push(Text::from_slice(alloc, b"hello")?)?;
     Ok(Image {
         code,
         funcs,
         points,
-        texts: Items::new(alloc),
+        texts,
         globals,
         spans,
         main: 0,
@@ -624,20 +658,22 @@ fn opening(alloc: Global, size: usize) -> Result<VecWords, NoMemory>
     VecWords::new(alloc, words.as_slice())
 }
 
-fn drive(image: &Image, local: &mut Local, words: &mut VecWords)
+// The turns until the worker stops, is idle or has returned from `main`, and their number.
+fn drive(image: &Image, local: &mut Local, words: &mut VecWords) -> u32
     requires size { length words.old ≡ local.old.limits.words }
     requires idles { local.old.tally.idles ≡ 0 }
 {
-    for _turn in 0..300_000u32 {
+    for turn in 0..300_000u32 {
         match exec_one(image, &[3, -4], local, words) {
             Turn::Went => {}
-            Turn::Idle => return,
-            Turn::Stop(_) => return,
+            Turn::Idle => return turn + 1,
+            Turn::Stop(_) => return turn + 1,
         }
         if local.main_value().is_some() {
-            return;
+            return turn + 1;
         }
     }
+    300_000
 }
 
 fn holds(row: &Row, local: &Local) -> bool {
@@ -658,8 +694,9 @@ fn holds(row: &Row, local: &Local) -> bool {
     true
 }
 
-fn row_holds(alloc: Global, row: &Row) -> Result<bool, NoMemory> {
-    let image = image_of(alloc, row.code)?;
+// Worker 0 after its run, alone, of this code.
+fn run(alloc: Global, code: &[Instr]) -> Result<Local, NoMemory> {
+    let image = image_of(alloc, code)?;
     let limits = Limits {
         words: 2097152,
         workers: 1,
@@ -668,6 +705,11 @@ fn row_holds(alloc: Global, row: &Row) -> Result<bool, NoMemory> {
     let mut local = Local::new(alloc, &image, &limits, 0)?;
     let mut words = opening(alloc, 2097152)?;
     drive(&image, &mut local, &mut words);
+    Ok(local)
+}
+
+fn row_holds(alloc: Global, row: &Row) -> Result<bool, NoMemory> {
+    let local = run(alloc, row.code)?;
     Ok(holds(row, &local))
 }
 
@@ -688,22 +730,11 @@ fn instructions(rt: HostRuntime) -> Result<(), Fail> {
 }
 
 #[test]
-fn cells(rt: HostRuntime) -> Result<(), Fail> {
-    let image = image_of(rt.alloc(), &[])?;
-    let limits = Limits {
-        words: 2097152,
-        workers: 2,
-        budget: 1,
-    };
-    let mut local = Local::new(rt.alloc(), &image, &limits, 1)?;
-    let mut words = opening(rt.alloc(), 2097152)?;
-    assert!(rt; matches!(post(&mut local, &mut words, 70000), Posted::Done));
-    assert!(rt; matches!(look(&mut local, &mut words), Looked::Found(70000)));
-    assert!(rt; matches!(look(&mut local, &mut words), Looked::Next));
-    assert!(rt; local.next().is_none());
-    assert!(rt; local.main_value().is_none());
-    assert!(rt; !local.leaves());
-    assert_eq!(rt; local.worker(), 1);
-    assert_eq!(rt; local.counts().instructions, 0);
+fn texts(rt: HostRuntime) -> Result<(), Fail> {
+    let local = run(rt.alloc(), &[Instr::Lit(0), Instr::Print, Instr::MainRet])?;
+    let prints = local.prints();
+    assert_eq!(rt; prints.len(), 2);
+    assert!(rt; matches!(prints.first(), Some((0, Print::Lit(0)))));
+    assert!(rt; matches!(prints.last(), Some((1, Print::Num(0)))));
     Ok(())
 }

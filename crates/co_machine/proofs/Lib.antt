@@ -1,2 +1,5 @@
 pub mod Steady
 pub mod Rest
+pub mod Printing
+pub mod Within
+pub mod Sample

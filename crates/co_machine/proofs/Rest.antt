@@ -1,5 +1,5 @@
 -- A worker at rest, and the count of its Idles.
-use Rattle.std.proofs.Common.{◌≡◌, ℕ, ◌+◌, Bool, true, false, List, Option, None, refl, sym, add-zero, arith}
+use Rattle.std.proofs.Common.{◌≡◌, ℕ, ◌+◌, Bool, true, false, List, None, refl, sym, add-zero}
 use Rattle.std.specs.Prelude.{ℤ, ◌==◌, if◌then◌else◌}
 use Rattle.co_code.specs.declared.image.Image.{Image}
 use Rattle.co_code.specs.declared.instr.Instr.{Instr}
@@ -14,7 +14,6 @@ use Rattle.co_machine.specs.declared.stop.Looked.TheVariants as looked
 use Rattle.co_machine.specs.declared.stop.StopKind.{StopKind}
 use Rattle.co_machine.specs.declared.stop.StopKind.TheVariants as stop
 use Rattle.co_machine.specs.declared.stop.Turn.TheVariants.{Went, Stop}
-use Rattle.co_words.specs.declared.access.Access.{Access}
 use Rattle.co_machine.specs.Effect.{look_answer}
 use Rattle.co_machine.specs.Turn.{ask, instr, due, idled, tallied, counted_with, answer_by, turn_answer}
 

@@ -1,4 +1,4 @@
-use Rattle.std.proofs.Common.{◌≡◌, ◌+◌, ap, ◌∙◌, subst, sym}
+use Rattle.std.proofs.Common.{◌+◌, ap, ◌∙◌, subst, sym}
 use Rattle.co_machine.specs.Ready.{IsSteady}
 use Rattle.co_machine.specs.Turn.{idled}
 use Rattle.co_machine.specs.declared.state.Tally.{Tally}
