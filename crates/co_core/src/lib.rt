@@ -1,0 +1,2 @@
+//! The units of the core tree that are valid: those that the layers above may rest on.
+#![tactic(auto)]
