@@ -86,8 +86,11 @@ is_testable g = false
 abbrev pub same_pointers : Shape → Shape → Bool
 same_pointers a b = is_pointer a.head && (is_pointer b.head && (same_shape a b || (is_address a || is_address b)))
 
+abbrev pub null_beside : Head → Head → Bool
+null_beside a b = (is_nullable a && is_null b) || (is_null a && is_nullable b)
+
 abbrev pub comparable : Shape → Shape → Bool
-comparable a b = same_pointers a b || ((is_handle a.head && is_handle b.head) || ((is_nullable a.head && is_null b.head) || (is_null a.head && is_nullable b.head)))
+comparable a b = same_pointers a b || ((is_handle a.head && is_handle b.head) || null_beside a.head b.head)
 
 -- two pointers of one type or one of them `void*`, two handles, or one of these or a `std::exception_ptr` beside null [expr.eq]
 abbrev pub same_fits : Gives → Gives → Bool
