@@ -316,13 +316,16 @@ abbrev pub is_throw : Gives → Bool
 is_throw Throws = true
 is_throw g = false
 
+abbrev pub object_fits : Bool → CoType → Gives → Bool
+object_fits object to g = is_throw g || (object && is_place_of to g)
+
 abbrev pub value_fits_head : Bool → Head → CoType → Gives → Bool
 value_fits_head object head.Void to g = false
 value_fits_head object head.NullPtr to g = false
 value_fits_head object head.Ref to g = is_place_of_target (target_of to) g
 value_fits_head object head.ConstRef to g = is_place_of_target (target_of to) g
 value_fits_head object head.RefRef to g = is_place_of_target (target_of to) g
-value_fits_head object (head.Class class) to g = is_throw g || (object && is_place_of to g)
+value_fits_head object (head.Class class) to g = object_fits object to g
 value_fits_head object (head.Atomic k) to g = value_converts (plain k) g
 value_fits_head object h to g = value_converts (shape_of to) g
 
@@ -332,8 +335,8 @@ abbrev pub value_fits : Bool → CoType → Gives → Bool
 value_fits object to g = value_fits_head object (head_of to) to g
 
 -- the class result of a call or an await
-abbrev pub result_fits : CoType → Gives → Bool
-result_fits to (Value of) = is_class_of (head_of to) && same_head of.head (head_of to)
+abbrev pub result_fits : Head → Gives → Bool
+result_fits to (Value of) = is_class_of to && same_head of.head to
 result_fits to g = false
 
 abbrev pub choose_fits : Head → Gives → Bool
@@ -351,9 +354,12 @@ abbrev pub makes_temp : SlotId → CoreExpr → Bool
 makes_temp holder (expr.Temp' slot n i at) = slot.0 == holder.0
 makes_temp holder e = false
 
+abbrev pub holds_reference : CoType → Gives → Bool
+holds_reference of operand = same_head (head_of of) head.Ref && is_place_of_target (target_of of) operand
+
 abbrev pub holds : SlotKind → CoType → Bool → Gives → Bool
 holds kind.Temp of temp operand = temp
-holds kind.Held of temp operand = same_head (head_of of) head.Ref && is_place_of_target (target_of of) operand
+holds kind.Held of temp operand = holds_reference of operand
 holds k of temp operand = false
 
 -- an awaiter that is a prvalue is the temporary in its slot; to another one a slot that is kept refers [expr.await]
@@ -517,7 +523,7 @@ module _ (unit : UnitParts) (func : CoreFunc) where
     init_typed w object to (init.Ctor' f n args) = constructs (func_at f) (head_of to) && args_typed w (after_first (param_types_of (func_at f))) args
     init_typed w object to (init.Members' n members) = has_members unit.classes (head_of to) && fields_typed (inside (head_of to) w) (fields_of_head unit.classes (head_of to)) members
     init_typed w object to (init.Value e) = typed w e && value_fits (object && is_temp e) to (gives w e)
-    init_typed w object to (init.Result e) = typed w e && result_fits to (gives w e)
+    init_typed w object to (init.Result e) = typed w e && result_fits (head_of to) (gives w e)
     init_typed w object to init.Raw = is_raw (head_of to)
     init_typed w object to (init.Choose' e n (more_of-Init x end_of-Init) m (more_of-Init y end_of-Init)) =
         typed w e && (choose_fits (head_of to) (gives w e) && (init_typed w false to x && init_typed w false to y))
