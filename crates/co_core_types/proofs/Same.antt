@@ -1,11 +1,11 @@
 -- Two types of which one points and refers to nothing.
-use Rattle.std.specs.Prelude.{◌≡◌, Bool, true, false, ◌&&◌, Option, None}
-use Rattle.std.proofs.Common.{refl, ap, ◌∙◌}
+use Rattle.std.specs.Prelude.{◌≡◌}
+use Rattle.std.proofs.Common.{refl}
 use Rattle.co_base.specs.declared.ids.ClassId.{ClassId}
 use Rattle.co_types.specs.declared.types.CoType.{CoType, end_of-CoType, more_of-CoType}
 use Rattle.co_types.specs.declared.types.CoType.TheVariants as type
 use Rattle.co_types.specs.declared.types.Head.TheVariants as head
-use Rattle.co_types.specs.Types.{head_of, on_target, same_head, same_type, target_of}
+use Rattle.co_types.specs.Types.{head_of, same_head, same_type}
 
 pub same_class : (a : CoType) (c : ClassId) → same_type a (type.Class c) ≡ same_head (head_of a) (head.Class c)
 same_class (type.Pointer' n (more_of-CoType a end_of-CoType)) c = refl

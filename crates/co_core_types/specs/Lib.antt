@@ -1,3 +1,3 @@
 pub mod Gives
-pub mod Rules
+pub mod Forms
 pub mod Seen

@@ -1,5 +1,4 @@
 -- What the code's views of types and of what is given stand for.
-use Rattle.std.specs.Prelude.{Option, None, Some}
 use Rattle.std.specs.Option.{option_map}
 use Rattle.co_types.specs.declared.types.CoType.{CoType}
 use Rattle.co_types.specs.declared.types.CoType.TheVariants as type

@@ -1,5 +1,5 @@
 ghost use Rattle.std.specs.Prelude.{◌≡◌, [], ◌∷◌};
-ghost use Rattle.co_core_types.specs.Rules as spec;
+ghost use Rattle.co_core_types.specs.Forms as spec;
 ghost use Rattle.co_core_types.specs.Seen.{known_type, seen, seen_shape};
 
 use crate::forms::class_place;
@@ -17,7 +17,7 @@ fn handle_kind<'a>(promise: Option<ClassId>) -> Kind<'a>
 }
 
 /// Whether it is a handle of whatever promise, or null.
-pub(crate) fn is_handle_value(view: View<'_>) -> bool
+pub fn is_handle_value(view: View<'_>) -> bool
     ensures { result ≡ spec.is_handle_value (seen view.entry) }
 {
     value_converts(handle_kind(None), view)
@@ -60,7 +60,7 @@ fn handle_of(view: View<'_>) -> View<'_>
 }
 
 /// What an act on a handle without operands gives [coroutine.handle].
-pub(crate) fn handle_alone<'a>(op: HandleOp) -> View<'a>
+pub fn handle_alone<'a>(op: HandleOp) -> View<'a>
     ensures { seen result ≡ spec.handle_gives op [] }
 {
     match op {
@@ -76,7 +76,7 @@ pub(crate) fn handle_alone<'a>(op: HandleOp) -> View<'a>
 }
 
 /// What an act on a handle gives by its operand.
-pub(crate) fn handle_with(op: HandleOp, operand: View<'_>) -> View<'_>
+pub fn handle_with(op: HandleOp, operand: View<'_>) -> View<'_>
     ensures { seen result ≡ spec.handle_gives op (seen operand.entry ∷ []) }
 {
     match op {
@@ -131,7 +131,7 @@ fn is_place_of_kind(to: Kind<'_>, view: View<'_>) -> bool
 }
 
 /// What an act on an atomic without values gives [atomics.types.operations].
-pub(crate) fn atomic_alone(op: AtomicOp, place: View<'_>) -> View<'_>
+pub fn atomic_alone(op: AtomicOp, place: View<'_>) -> View<'_>
     ensures { seen result ≡ spec.atomic_gives op (seen place.entry ∷ []) }
 {
     let Some(kind) = atomic_kind(place) else {
@@ -162,7 +162,7 @@ fn atomic_acts<'a>(op: AtomicOp, kind: AtomicKind, value: View<'a>) -> View<'a>
 }
 
 /// What an act on an atomic with one value gives.
-pub(crate) fn atomic_with<'a>(op: AtomicOp, place: View<'a>, value: View<'a>) -> View<'a>
+pub fn atomic_with<'a>(op: AtomicOp, place: View<'a>, value: View<'a>) -> View<'a>
     ensures { seen result ≡ spec.atomic_gives op (seen place.entry ∷ seen value.entry ∷ []) }
 {
     match atomic_kind(place) {
@@ -184,7 +184,7 @@ fn exchanges<'a>(op: AtomicOp, kind: AtomicKind, expected: View<'a>, value: View
 }
 
 /// What an act on an atomic with two operands more gives.
-pub(crate) fn atomic_with_two<'a>(op: AtomicOp, place: View<'a>, expected: View<'a>, value: View<'a>) -> View<'a>
+pub fn atomic_with_two<'a>(op: AtomicOp, place: View<'a>, expected: View<'a>, value: View<'a>) -> View<'a>
     ensures { seen result ≡ spec.atomic_gives op (seen place.entry ∷ seen expected.entry ∷ seen value.entry ∷ []) }
 {
     match atomic_kind(place) {
@@ -194,7 +194,7 @@ pub(crate) fn atomic_with_two<'a>(op: AtomicOp, place: View<'a>, expected: View<
 }
 
 /// What a call of the library without arguments gives.
-pub(crate) fn lib_alone<'a>(op: LibOp) -> View<'a>
+pub fn lib_alone<'a>(op: LibOp) -> View<'a>
     ensures { seen result ≡ spec.lib_gives op [] }
 {
     match op {
@@ -204,7 +204,7 @@ pub(crate) fn lib_alone<'a>(op: LibOp) -> View<'a>
 }
 
 /// What a call of the library gives by its argument.
-pub(crate) fn lib_with(op: LibOp, operand: View<'_>) -> View<'_>
+pub fn lib_with(op: LibOp, operand: View<'_>) -> View<'_>
     ensures { seen result ≡ spec.lib_gives op (seen operand.entry ∷ []) }
 {
     match op {
@@ -219,7 +219,7 @@ pub(crate) fn lib_with(op: LibOp, operand: View<'_>) -> View<'_>
 }
 
 /// What a call of the library gives by its two arguments.
-pub(crate) fn lib_with_two<'a>(op: LibOp, first: View<'a>, second: View<'a>) -> View<'a>
+pub fn lib_with_two<'a>(op: LibOp, first: View<'a>, second: View<'a>) -> View<'a>
     ensures { seen result ≡ spec.lib_gives op (seen first.entry ∷ seen second.entry ∷ []) }
 {
     match op {

@@ -1,7 +1,7 @@
 ghost use Rattle.std.specs.Prelude.{◌≡◌};
 ghost use Rattle.std.specs.Option.{option_copied, option_map};
 ghost use Rattle.co_core_types.specs.Gives as give;
-ghost use Rattle.co_core_types.specs.Rules as spec;
+ghost use Rattle.co_core_types.specs.Forms as spec;
 ghost use Rattle.co_core_types.specs.Seen.{known_type, seen, seen_shape};
 
 use crate::views::{
@@ -32,7 +32,7 @@ fn is_comparison(op: Op) -> bool
     }
 }
 
-pub(crate) fn arith_gives<'a>(op: Op, num: Num) -> View<'a>
+pub fn arith_gives<'a>(op: Op, num: Num) -> View<'a>
     ensures { seen result ≡ give.arith_gives op num }
 {
     if is_comparison(op) {
@@ -62,7 +62,7 @@ fn target_place(target: Option<Known<'_>>) -> View<'_>
 }
 
 /// The object that a pointer points to or a reference refers to [expr.unary.op].
-pub(crate) fn referent(view: View<'_>) -> View<'_>
+pub fn referent(view: View<'_>) -> View<'_>
     ensures { seen result ≡ give.referent (seen view.entry) }
 {
     match view {
@@ -82,7 +82,7 @@ fn unless_reference(of: Known<'_>) -> View<'_>
 }
 
 /// A pointer to an object; there is none to a reference [dcl.ptr].
-pub(crate) fn pointer_to(view: View<'_>) -> View<'_>
+pub fn pointer_to(view: View<'_>) -> View<'_>
     ensures { seen result ≡ give.pointer_to (seen view.entry) }
 {
     match view {
@@ -102,7 +102,7 @@ fn load_of(of: Known<'_>) -> View<'_>
 }
 
 /// The value of the scalar at a place [conv.lval].
-pub(crate) fn loaded(view: View<'_>) -> View<'_>
+pub fn loaded(view: View<'_>) -> View<'_>
     ensures { seen result ≡ give.loaded (seen view.entry) }
 {
     match view {
@@ -144,7 +144,7 @@ fn join_places<'a>(a: Known<'a>, b: Known<'a>) -> View<'a>
 }
 
 /// What `?:` gives by its branches [expr.cond].
-pub(crate) fn joined<'a>(x: View<'a>, y: View<'a>) -> View<'a>
+pub fn joined<'a>(x: View<'a>, y: View<'a>) -> View<'a>
     ensures { seen result ≡ give.joined (seen x.entry) (seen y.entry) }
 {
     match (x, y) {
@@ -158,7 +158,7 @@ pub(crate) fn joined<'a>(x: View<'a>, y: View<'a>) -> View<'a>
 }
 
 /// What a call of a function with this result gives [expr.call].
-pub(crate) fn result_gives(of: &CoType) -> View<'_>
+pub fn result_gives(of: &CoType) -> View<'_>
     ensures { seen result ≡ give.result_gives of.now }
 {
     let of = Known::Of(of);
@@ -169,7 +169,7 @@ pub(crate) fn result_gives(of: &CoType) -> View<'_>
     }
 }
 
-pub(crate) fn class_place<'a>(class: Option<ClassId>) -> View<'a>
+pub fn class_place<'a>(class: Option<ClassId>) -> View<'a>
     ensures { seen result ≡ give.class_place class }
 {
     match class {
@@ -185,7 +185,7 @@ fn fits_store(of: Known<'_>, value: View<'_>) -> bool
 }
 
 /// Whether a value may be assigned to a place [expr.ass].
-pub(crate) fn store_fits(place: View<'_>, value: View<'_>) -> bool
+pub fn store_fits(place: View<'_>, value: View<'_>) -> bool
     ensures { result ≡ spec.store_fits (seen place.entry) (seen value.entry) }
 {
     match place {
@@ -204,7 +204,7 @@ fn operand_fits(op: Op, num: Num, view: View<'_>) -> bool
     }
 }
 
-pub(crate) fn arith_fits(op: Op, num: Num, left: View<'_>, right: View<'_>) -> bool
+pub fn arith_fits(op: Op, num: Num, left: View<'_>, right: View<'_>) -> bool
     ensures { result ≡ spec.arith_fits op num (seen left.entry) (seen right.entry) }
 {
     is_number(num, left) && operand_fits(op, num, right)
@@ -219,7 +219,7 @@ fn is_number_place(view: View<'_>) -> bool
     }
 }
 
-pub(crate) fn is_some_number_type(head: Head) -> bool
+pub fn is_some_number_type(head: Head) -> bool
     ensures { result ≡ spec.is_some_number_type head }
 {
     match head {
@@ -228,20 +228,20 @@ pub(crate) fn is_some_number_type(head: Head) -> bool
     }
 }
 
-pub(crate) fn update_fits(op: Op, num: Num, place: View<'_>, value: View<'_>) -> bool
+pub fn update_fits(op: Op, num: Num, place: View<'_>, value: View<'_>) -> bool
     ensures { result ≡ spec.update_fits op num (seen place.entry) (seen value.entry) }
 {
     !is_comparison(op) && (is_number_place(place) && operand_fits(op, num, value))
 }
 
-pub(crate) fn updated(old: bool, place: View<'_>) -> View<'_>
+pub fn updated(old: bool, place: View<'_>) -> View<'_>
     ensures { seen result ≡ spec.updated old (seen place.entry) }
 {
     if old { loaded(place) } else { place }
 }
 
 /// Whether a value is null or not [conv.bool].
-pub(crate) fn is_testable(view: View<'_>) -> bool
+pub fn is_testable(view: View<'_>) -> bool
     ensures { result ≡ spec.is_testable (seen view.entry) }
 {
     match view {
@@ -269,7 +269,7 @@ fn comparable(a: Kind<'_>, b: Kind<'_>) -> bool
 }
 
 /// Whether two values can be compared as pointers, handles or null [expr.eq].
-pub(crate) fn same_fits(a: View<'_>, b: View<'_>) -> bool
+pub fn same_fits(a: View<'_>, b: View<'_>) -> bool
     ensures { result ≡ spec.same_fits (seen a.entry) (seen b.entry) }
 {
     match (a, b) {
@@ -278,13 +278,13 @@ pub(crate) fn same_fits(a: View<'_>, b: View<'_>) -> bool
     }
 }
 
-pub(crate) fn are_truths(a: View<'_>, b: View<'_>) -> bool
+pub fn are_truths(a: View<'_>, b: View<'_>) -> bool
     ensures { result ≡ spec.are_truths (seen a.entry) (seen b.entry) }
 {
     is_number(Num::Bool, a) && is_number(Num::Bool, b)
 }
 
-pub(crate) fn pick_fits(condition: View<'_>, chosen: View<'_>) -> bool
+pub fn pick_fits(condition: View<'_>, chosen: View<'_>) -> bool
     ensures { result ≡ spec.pick_fits (seen condition.entry) (seen chosen.entry) }
 {
     is_number(Num::Bool, condition) && is_right(chosen)

@@ -1,7 +1,7 @@
 ghost use Rattle.std.specs.Prelude.{◌≡◌};
 ghost use Rattle.std.specs.Option.{option_copied, option_map};
 ghost use Rattle.std.specs.List.{list_all, list_any};
-ghost use Rattle.co_core_types.specs.Rules as spec;
+ghost use Rattle.co_core_types.specs.Forms as spec;
 ghost use Rattle.co_core_types.specs.Gives as give;
 ghost use Rattle.co_core_types.specs.Seen.{known_type, seen, seen_shape};
 
@@ -35,13 +35,13 @@ fn is_pointer_value_to(to: Known<'_>, view: View<'_>) -> bool
 }
 
 /// Whether it is a pointer to an object of exactly this type [expr.delete].
-pub(crate) fn delete_fits(of: &CoType, view: View<'_>) -> bool
+pub fn delete_fits(of: &CoType, view: View<'_>) -> bool
     ensures { result ≡ spec.delete_fits of.now (seen view.entry) }
 {
     is_object(of.head()) && is_pointer_value_to(Known::Of(of), view)
 }
 
-pub(crate) fn is_raw(head: Head) -> bool
+pub fn is_raw(head: Head) -> bool
     ensures { result ≡ spec.is_raw head }
 {
     match head {
@@ -75,7 +75,7 @@ fn object_fits(object: bool, to: Known<'_>, view: View<'_>) -> bool
 }
 
 /// Whether a value, or the place for a reference or a class parameter, initializes an object of the type [dcl.init].
-pub(crate) fn value_fits(object: bool, to: Known<'_>, view: View<'_>) -> bool
+pub fn value_fits(object: bool, to: Known<'_>, view: View<'_>) -> bool
     ensures { result ≡ spec.value_fits object (known_type to.entry) (seen view.entry) }
 {
     match to.head() {
@@ -88,7 +88,7 @@ pub(crate) fn value_fits(object: bool, to: Known<'_>, view: View<'_>) -> bool
 }
 
 /// Whether it is the class result that makes an object of the type.
-pub(crate) fn result_fits(to: Head, view: View<'_>) -> bool
+pub fn result_fits(to: Head, view: View<'_>) -> bool
     ensures { result ≡ spec.result_fits to (seen view.entry) }
 {
     match view {
@@ -97,7 +97,7 @@ pub(crate) fn result_fits(to: Head, view: View<'_>) -> bool
     }
 }
 
-pub(crate) fn choose_fits(to: Head, view: View<'_>) -> bool
+pub fn choose_fits(to: Head, view: View<'_>) -> bool
     ensures { result ≡ spec.choose_fits to (seen view.entry) }
 {
     is_class_of(to) && is_number(Num::Bool, view)

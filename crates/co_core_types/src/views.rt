@@ -33,7 +33,7 @@ pub enum View<'a> {
     Wrong,
 }
 
-pub(crate) fn is_same_num(a: Num, b: Num) -> bool
+pub fn is_same_num(a: Num, b: Num) -> bool
     ensures { result ≡ same_num a b }
 {
     match (a, b) {
@@ -103,7 +103,7 @@ impl<'a> Known<'a> {
         }
     }
 
-    pub(crate) fn kind(self) -> Kind<'a>
+    pub fn kind(self) -> Kind<'a>
         ensures { seen_shape result ≡ spec.shape_of (known_type self.entry) }
     {
         Kind {
@@ -137,31 +137,31 @@ fn is_same_target(a: Option<Known<'_>>, b: Option<Known<'_>>) -> bool
     }
 }
 
-pub(crate) fn is_same_kind(a: Kind<'_>, b: Kind<'_>) -> bool
+pub fn is_same_kind(a: Kind<'_>, b: Kind<'_>) -> bool
     ensures { result ≡ spec.same_shape (seen_shape a.entry) (seen_shape b.entry) }
 {
     is_same_head(a.head, b.head) && is_same_target(a.target, b.target)
 }
 
-pub(crate) fn plain_kind<'a>(head: Head) -> Kind<'a>
+pub fn plain_kind<'a>(head: Head) -> Kind<'a>
     ensures { seen_shape result ≡ spec.plain_shape head }
 {
     Kind { head, target: None }
 }
 
-pub(crate) fn number<'a>(num: Num) -> View<'a>
+pub fn number<'a>(num: Num) -> View<'a>
     ensures { seen result ≡ spec.number num }
 {
     View::Value(plain_kind(Head::Num(num)))
 }
 
-pub(crate) fn truth<'a>() -> View<'a>
+pub fn truth<'a>() -> View<'a>
     ensures { seen result ≡ spec.truth }
 {
     number(Num::Bool)
 }
 
-pub(crate) fn pointer_kind(to: Known<'_>) -> Kind<'_>
+pub fn pointer_kind(to: Known<'_>) -> Kind<'_>
     ensures { seen_shape result ≡ spec.pointer_shape (known_type to.entry) }
 {
     Kind {
@@ -170,13 +170,13 @@ pub(crate) fn pointer_kind(to: Known<'_>) -> Kind<'_>
     }
 }
 
-pub(crate) fn address_kind<'a>() -> Kind<'a>
+pub fn address_kind<'a>() -> Kind<'a>
     ensures { seen_shape result ≡ spec.address_shape }
 {
     pointer_kind(Known::Void)
 }
 
-pub(crate) fn is_scalar(head: Head) -> bool
+pub fn is_scalar(head: Head) -> bool
     ensures { result ≡ spec.is_scalar head }
 {
     match head {
@@ -185,7 +185,7 @@ pub(crate) fn is_scalar(head: Head) -> bool
     }
 }
 
-pub(crate) fn is_reference(head: Head) -> bool
+pub fn is_reference(head: Head) -> bool
     ensures { result ≡ spec.is_reference head }
 {
     match head {
@@ -194,7 +194,7 @@ pub(crate) fn is_reference(head: Head) -> bool
     }
 }
 
-pub(crate) fn is_assignable(head: Head) -> bool
+pub fn is_assignable(head: Head) -> bool
     ensures { result ≡ spec.is_assignable head }
 {
     match head {
@@ -203,7 +203,7 @@ pub(crate) fn is_assignable(head: Head) -> bool
     }
 }
 
-pub(crate) fn is_nullable(head: Head) -> bool
+pub fn is_nullable(head: Head) -> bool
     ensures { result ≡ spec.is_nullable head }
 {
     match head {
@@ -212,7 +212,7 @@ pub(crate) fn is_nullable(head: Head) -> bool
     }
 }
 
-pub(crate) fn is_pointer(head: Head) -> bool
+pub fn is_pointer(head: Head) -> bool
     ensures { result ≡ spec.is_pointer head }
 {
     match head {
@@ -221,7 +221,7 @@ pub(crate) fn is_pointer(head: Head) -> bool
     }
 }
 
-pub(crate) fn is_handle(head: Head) -> bool
+pub fn is_handle(head: Head) -> bool
     ensures { result ≡ spec.is_handle head }
 {
     match head {
@@ -230,7 +230,7 @@ pub(crate) fn is_handle(head: Head) -> bool
     }
 }
 
-pub(crate) fn is_null(head: Head) -> bool
+pub fn is_null(head: Head) -> bool
     ensures { result ≡ spec.is_null head }
 {
     match head {
@@ -239,7 +239,7 @@ pub(crate) fn is_null(head: Head) -> bool
     }
 }
 
-pub(crate) fn is_void(head: Head) -> bool
+pub fn is_void(head: Head) -> bool
     ensures { result ≡ spec.is_void head }
 {
     match head {
@@ -257,7 +257,7 @@ fn targets_void(target: Option<Known<'_>>) -> bool
     }
 }
 
-pub(crate) fn is_address(of: Kind<'_>) -> bool
+pub fn is_address(of: Kind<'_>) -> bool
     ensures { result ≡ spec.is_address (seen_shape of.entry) }
 {
     is_pointer(of.head) && targets_void(of.target)
@@ -275,14 +275,14 @@ fn widens(from: Head, to: Kind<'_>) -> bool
 }
 
 /// Whether a value of the first type stands where one of the second is wanted [conv.ptr].
-pub(crate) fn converts(from: Kind<'_>, to: Kind<'_>) -> bool
+pub fn converts(from: Kind<'_>, to: Kind<'_>) -> bool
     ensures { result ≡ spec.converts (seen_shape from.entry) (seen_shape to.entry) }
 {
     is_same_kind(from, to) || widens(from.head, to)
 }
 
 /// The value of a `std::atomic`.
-pub(crate) fn plain<'a>(kind: AtomicKind) -> Kind<'a>
+pub fn plain<'a>(kind: AtomicKind) -> Kind<'a>
     ensures { seen_shape result ≡ spec.plain kind }
 {
     match kind {
@@ -311,7 +311,7 @@ fn is_number_head(num: Num, head: Head) -> bool
     }
 }
 
-pub(crate) fn is_some_number_head(head: Head) -> bool
+pub fn is_some_number_head(head: Head) -> bool
     ensures { result ≡ spec.is_some_number_head head }
 {
     match head {
@@ -330,7 +330,7 @@ pub fn is_number(num: Num, view: View<'_>) -> bool
     }
 }
 
-pub(crate) fn is_some_number(view: View<'_>) -> bool
+pub fn is_some_number(view: View<'_>) -> bool
     ensures { result ≡ spec.is_some_number (seen view.entry) }
 {
     match view {
@@ -339,7 +339,7 @@ pub(crate) fn is_some_number(view: View<'_>) -> bool
     }
 }
 
-pub(crate) fn value_converts(to: Kind<'_>, view: View<'_>) -> bool
+pub fn value_converts(to: Kind<'_>, view: View<'_>) -> bool
     ensures { result ≡ spec.value_converts (seen_shape to.entry) (seen view.entry) }
 {
     match view {
@@ -349,7 +349,7 @@ pub(crate) fn value_converts(to: Kind<'_>, view: View<'_>) -> bool
     }
 }
 
-pub(crate) fn is_place_of(to: Known<'_>, view: View<'_>) -> bool
+pub fn is_place_of(to: Known<'_>, view: View<'_>) -> bool
     ensures { result ≡ spec.is_place_of (known_type to.entry) (seen view.entry) }
 {
     match view {
@@ -359,7 +359,7 @@ pub(crate) fn is_place_of(to: Known<'_>, view: View<'_>) -> bool
     }
 }
 
-pub(crate) fn is_place_of_target(target: Option<Known<'_>>, view: View<'_>) -> bool
+pub fn is_place_of_target(target: Option<Known<'_>>, view: View<'_>) -> bool
     ensures { result ≡ spec.is_place_of_target (option_map known_type target.entry) (seen view.entry) }
 {
     match target {

@@ -1,0 +1,140 @@
+-- What the tables of a unit say of slots, functions and thrown types.
+use Rattle.std.specs.Prelude.{ℕ, Bool, true, false, not, ◌||◌, ◌&&◌, nat_le, ◌==◌, if◌then◌else◌, List, [], ◌∷◌, length, Option, None, Some, slice_get, bytes_eq}
+use Rattle.std.specs.List.{list_all, list_any}
+use Rattle.co_base.specs.declared.kinds.Num.{Num}
+use Rattle.co_base.specs.declared.kinds.Num.TheVariants as num
+use Rattle.co_base.specs.declared.kinds.Op.{Op}
+use Rattle.co_base.specs.declared.kinds.Op.TheVariants as op
+use Rattle.co_base.specs.declared.kinds.AtomicKind.{AtomicKind}
+use Rattle.co_base.specs.declared.kinds.AtomicKind.TheVariants as atomic
+use Rattle.co_base.specs.declared.ids.ClassId.{ClassId}
+use Rattle.co_base.specs.declared.ids.FuncId.{FuncId}
+use Rattle.co_base.specs.declared.ids.SlotId.{SlotId}
+use Rattle.co_types.specs.declared.types.CoType.{CoType}
+use Rattle.co_types.specs.declared.types.CoType.TheVariants as type
+use Rattle.co_types.specs.declared.types.Head.{Head}
+use Rattle.co_types.specs.declared.types.Head.TheVariants as head
+use Rattle.co_types.specs.declared.classes.ClassInfo.{ClassInfo}
+use Rattle.co_types.specs.declared.classes.FieldInfo.{FieldInfo}
+use Rattle.co_types.specs.declared.classes.FuncInfo.{FuncInfo}
+use Rattle.co_types.specs.Types.{head_of, target_of, same_head, same_type}
+use Rattle.co_types.specs.Classes.{is_destructor_name}
+use Rattle.co_core_tree.specs.declared.kinds.Answer.{Answer}
+use Rattle.co_core_tree.specs.declared.kinds.Answer.TheVariants as answer
+use Rattle.co_core_tree.specs.declared.kinds.HandleOp.{HandleOp}
+use Rattle.co_core_tree.specs.declared.kinds.HandleOp.TheVariants as handle
+use Rattle.co_core_tree.specs.declared.kinds.AtomicOp.{AtomicOp}
+use Rattle.co_core_tree.specs.declared.kinds.AtomicOp.TheVariants as act
+use Rattle.co_core_tree.specs.declared.kinds.LibOp.{LibOp}
+use Rattle.co_core_tree.specs.declared.kinds.LibOp.TheVariants as lib
+use Rattle.co_core_tree.specs.declared.kinds.SlotKind.{SlotKind}
+use Rattle.co_core_tree.specs.declared.kinds.SlotKind.TheVariants as kind
+use Rattle.co_core_tree.specs.declared.units.SlotInfo.{SlotInfo}
+use Rattle.co_core_tree.specs.declared.units.GlobalInfo.{GlobalInfo}
+use Rattle.co_core_tree.specs.declared.units.FuncRole.{FuncRole}
+use Rattle.co_core_tree.specs.declared.units.FuncRole.TheVariants as role
+use Rattle.co_core_tree.specs.declared.units.CoreFunc.{CoreFunc}
+use Rattle.co_core_tree.specs.declared.units.UnitParts.{UnitParts}
+use Rattle.co_core_tree.specs.declared.exprs.CoreExpr.{CoreExpr, Row_of-CoreExpr, end_of-CoreExpr, more_of-CoreExpr, Row_of-Init, end_of-Init, more_of-Init, end_of-AwaitPlan, more_of-AwaitPlan, end_of-NewPlan, more_of-NewPlan, end_of-DeletePlan, more_of-DeletePlan}
+use Rattle.co_core_tree.specs.declared.exprs.CoreExpr.TheVariants as expr
+use Rattle.co_core_tree.specs.declared.exprs.Init.{Init}
+use Rattle.co_core_tree.specs.declared.exprs.Init.TheVariants as init
+use Rattle.co_core_tree.specs.Slots.{slot_at}
+use Rattle.co_core_types.specs.Gives.{Shape, Gives, Place, Value, Nothing, Throws, Wrong, shape_of, plain_shape, number, truth, pointer_shape, address_shape, is_scalar, is_reference, is_assignable, is_nullable, is_pointer, is_handle, is_null, is_void, same_shape, is_address, converts, plain, is_right, is_number, is_some_number, value_converts, is_place_of, is_place_of_target, is_shift, is_comparison, arith_gives, field_place, referent, pointer_to, loaded, joined, result_gives, class_place, whole_place}
+
+use Rattle.co_core_types.specs.Forms.{is_some_number_type, is_class_of}
+
+-- ---- slots and globals
+
+abbrev pub slot_place : Option SlotInfo → Gives
+slot_place None = Wrong
+slot_place (Some slot) = Place slot.of
+
+abbrev pub global_place : Option GlobalInfo → Gives
+global_place None = Wrong
+global_place (Some global) = Place global.of
+
+abbrev pub type_of_slot : Option SlotInfo → CoType
+type_of_slot None = type.Void
+type_of_slot (Some slot) = slot.of
+
+-- the type of a slot, and `void`, of which there is no object, where the function has no such slot
+abbrev pub slot_type : CoreFunc → SlotId → CoType
+slot_type func slot = type_of_slot (slot_at func slot)
+
+-- ---- functions
+
+abbrev pub types_of : CoreFunc → List SlotId → List CoType
+types_of func [] = []
+types_of func (slot ∷ slots) = slot_type func slot ∷ types_of func slots
+
+abbrev pub param_types : CoreFunc → List CoType
+param_types func = types_of func func.params
+
+abbrev pub param_types_of : Option CoreFunc → List CoType
+param_types_of None = []
+param_types_of (Some func) = param_types func
+
+abbrev pub after_first : List CoType → List CoType
+after_first [] = []
+after_first (first ∷ rest) = rest
+
+abbrev pub is_plain_role : FuncRole → Bool
+is_plain_role role.Plain = true
+is_plain_role r = false
+
+-- a function that is called by its name
+abbrev pub is_plain : Option CoreFunc → Bool
+is_plain None = false
+is_plain (Some func) = is_plain_role func.role
+
+abbrev pub constructs_head : FuncRole → Head → Bool
+constructs_head (role.Ctor class members) h = same_head h (head.Class class)
+constructs_head r h = false
+
+-- a constructor of this class
+abbrev pub constructs : Option CoreFunc → Head → Bool
+constructs None h = false
+constructs (Some func) h = constructs_head func.role h
+
+abbrev pub call_gives : Option CoreFunc → Gives
+call_gives None = Wrong
+call_gives (Some func) = result_gives func.result
+
+-- ---- thrown types [except.throw]
+
+abbrev pub is_number_field : FieldInfo → Bool
+is_number_field field = is_some_number_type (head_of field.of)
+
+abbrev pub is_class_target : ClassId → Option CoType → Bool
+is_class_target class None = false
+is_class_target class (Some to) = same_head (head_of to) (head.Class class)
+
+abbrev pub takes_itself : ClassId → List CoType → Bool
+takes_itself class [] = true
+takes_itself class (param ∷ []) = is_reference (head_of param) && is_class_target class (target_of param)
+takes_itself class (param ∷ next ∷ params) = false
+
+-- a default, copy or move constructor or a destructor that is declared [special]
+abbrev pub is_declared_special : ClassId → List ℕ → FuncInfo → Bool
+is_declared_special class name func = not func.is_implicit && (is_destructor_name name func.name || (bytes_eq func.name name && takes_itself class func.params))
+
+abbrev pub is_thrown_info : ClassId → Option ClassInfo → Bool
+is_thrown_info class None = false
+is_thrown_info class (Some info) = nat_le 1 (length info.fields) && (nat_le (length info.fields) 3 && (list_all is_number_field info.fields && not (list_any (is_declared_special class info.name) info.funcs)))
+
+-- a class of one to three integer members without declared special members
+abbrev pub is_thrown_class : List ClassInfo → ClassId → Bool
+is_thrown_class classes class = is_thrown_info class (slice_get classes class.0)
+
+abbrev pub throw_fits_head : List ClassInfo → CoType → Head → Gives → Bool
+throw_fits_head classes of (head.Num num.Bool) g = is_number num.Bool g
+throw_fits_head classes of (head.Num num.Int) g = is_number num.Int g
+throw_fits_head classes of (head.Num num.Long) g = is_number num.Long g
+throw_fits_head classes of (head.Class class) g = is_thrown_class classes class && is_place_of of g
+throw_fits_head classes of h g = false
+
+-- `int`, `long` and `bool` are thrown by value, an object of such a class is copied from its place
+abbrev pub throw_fits : List ClassInfo → CoType → Gives → Bool
+throw_fits classes of g = throw_fits_head classes of (head_of of) g
+
