@@ -115,9 +115,12 @@ takes_itself class [] = true
 takes_itself class (param ∷ []) = is_reference (head_of param) && is_class_target class (target_of param)
 takes_itself class (param ∷ next ∷ params) = false
 
+abbrev pub is_self_constructor : ClassId → List ℕ → FuncInfo → Bool
+is_self_constructor class name func = bytes_eq func.name name && takes_itself class func.params
+
 -- a default, copy or move constructor or a destructor that is declared [special]
 abbrev pub is_declared_special : ClassId → List ℕ → FuncInfo → Bool
-is_declared_special class name func = not func.is_implicit && (is_destructor_name name func.name || (bytes_eq func.name name && takes_itself class func.params))
+is_declared_special class name func = not func.is_implicit && (is_destructor_name name func.name || is_self_constructor class name func)
 
 abbrev pub is_thrown_info : ClassId → Option ClassInfo → Bool
 is_thrown_info class None = false

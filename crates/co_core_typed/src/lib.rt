@@ -1,0 +1,7 @@
+//! Whether each part of an expression or an initializer of the core tree has the type that its form needs.
+#![tactic(auto)]
+
+mod tables;
+mod wholes;
+
+pub use wholes::Wholes;
