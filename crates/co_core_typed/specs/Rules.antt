@@ -208,3 +208,14 @@ module _ (unit : UnitParts) (func : CoreFunc) where
     args_typed w [] end_of-Init = true
     args_typed w (to ∷ types) (more_of-Init i rest) = init_typed w true to i && args_typed w types rest
     args_typed w types rest = false
+
+  -- the same of a list of initializers: one for each field, and one for each parameter
+  abbrev pub members_typed : List ClassId → List FieldInfo → List Init → Bool
+  members_typed w [] [] = true
+  members_typed w (field ∷ fields) (i ∷ is) = init_typed w false field.of i && members_typed w fields is
+  members_typed w fields is = false
+
+  abbrev pub arguments_typed : List ClassId → List CoType → List Init → Bool
+  arguments_typed w [] [] = true
+  arguments_typed w (to ∷ types) (i ∷ is) = init_typed w true to i && arguments_typed w types is
+  arguments_typed w types is = false
