@@ -1,5 +1,5 @@
 -- What an expression and an initializer give and need at each form that holds others.
-use Rattle.std.specs.Prelude.{◌≡◌, ℕ, Bool, true, false, ◌&&◌, List, [], ◌∷◌, slice_get}
+use Rattle.std.specs.Prelude.{◌≡◌, ℕ, ◌==◌, Bool, true, false, ◌&&◌, List, [], ◌∷◌, slice_get}
 use Rattle.std.specs.List.{list_all}
 use Rattle.std.proofs.Common.{refl, ap, ◌∙◌, map}
 use mathlib.Core.Former.{Count}
@@ -297,3 +297,13 @@ module _ (unit : UnitParts) (func : CoreFunc) (w : List ClassId) where
   typed_choose object to e x y = refl
 
 pub ruleset opened = (gives_field, typed_field, gives_deref, typed_deref, gives_address, typed_address, gives_load, typed_load, gives_store, typed_store, gives_exchange, typed_exchange, gives_update, typed_update, gives_arith, typed_arith, gives_convert, typed_convert, gives_test, typed_test, gives_same, typed_same, gives_both, typed_both, gives_either, typed_either, gives_pick, typed_pick, gives_temp, typed_temp, gives_throw, typed_throw, gives_rethrow_ptr, typed_rethrow_ptr, gives_await, typed_await, gives_new, typed_new, gives_delete, typed_delete, typed_call, gives_call, gives_handle, typed_handle, gives_atomic, typed_atomic, gives_lib, typed_lib, typed_ctor, typed_members, typed_choose)
+
+pub is_temp_temp : (slot : SlotId) (i : Init) (at : Span) → is_temp (expr.Temp slot i at) ≡ true
+unfolding shape-the_row-Init-2 hidden-the_row-Init-2 shown-the_row-Init-2 denote.Hole.Carrier.hidden
+is_temp_temp slot i at = refl
+
+pub makes_temp_temp : (holder slot : SlotId) (i : Init) (at : Span) → makes_temp holder (expr.Temp slot i at) ≡ (slot.0 == holder.0)
+unfolding shape-the_row-Init-2 hidden-the_row-Init-2 shown-the_row-Init-2 denote.Hole.Carrier.hidden
+makes_temp_temp holder slot i at = refl
+
+pub ruleset opened_temps = (is_temp_temp, makes_temp_temp)

@@ -38,6 +38,7 @@ use Rattle.co_core_tree.specs.declared.units.UnitParts.{UnitParts}
 use Rattle.co_core_tree.specs.declared.exprs.CoreExpr.{CoreExpr, Row_of-CoreExpr, end_of-CoreExpr, more_of-CoreExpr, Row_of-Init, end_of-Init, more_of-Init, end_of-AwaitPlan, more_of-AwaitPlan, end_of-NewPlan, more_of-NewPlan, end_of-DeletePlan, more_of-DeletePlan}
 use Rattle.co_core_tree.specs.declared.exprs.CoreExpr.TheVariants as expr
 use Rattle.co_core_tree.specs.declared.exprs.Init.{Init}
+use Rattle.co_core_tree.specs.declared.exprs.AwaitPlan.{AwaitPlan}
 use Rattle.co_core_tree.specs.declared.exprs.Init.TheVariants as init
 use Rattle.co_core_tree.specs.Slots.{slot_at}
 use Rattle.co_core_types.specs.Gives.{Shape, Gives, Place, Value, Nothing, Throws, Wrong, shape_of, plain_shape, number, truth, pointer_shape, address_shape, is_scalar, is_reference, is_assignable, is_nullable, is_pointer, is_handle, is_null, is_void, same_shape, is_address, converts, plain, is_right, is_number, is_some_number, value_converts, is_place_of, is_place_of_target, is_shift, is_comparison, arith_gives, field_place, referent, pointer_to, loaded, joined, result_gives, class_place, whole_place}
@@ -208,6 +209,12 @@ module _ (unit : UnitParts) (func : CoreFunc) where
     args_typed w [] end_of-Init = true
     args_typed w (to ∷ types) (more_of-Init i rest) = init_typed w true to i && args_typed w types rest
     args_typed w types rest = false
+
+  -- the parts of an await, and of one that is no expression [expr.await]
+  abbrev pub await_typed : List ClassId → AwaitPlan → Bool
+  await_typed w p =
+      typed w p.operand && (typed w p.ready && (typed w p.suspend && (typed w p.resume &&
+      await_fits (slot_at func p.holder) (makes_temp p.holder p.operand) p.answer (gives w p.operand) (gives w p.ready) (gives w p.suspend))))
 
   -- the same of a list of initializers: one for each field, and one for each parameter
   abbrev pub members_typed : List ClassId → List FieldInfo → List Init → Bool

@@ -6,13 +6,12 @@ ghost use Rattle.co_core_types.specs.Seen.{known_type, seen, seen_shape};
 ghost use Rattle.co_core_typed.specs.Tables as table;
 
 use crate::tables::{field_place, throw_fits};
-use co_base::{Num, Op};
-use co_core_tree::{Answer, AtomicOp, HandleOp, LibOp, SlotInfo};
+use co_base::{Num, Op, SlotId};
+use co_core_tree::{Answer, CoreExpr, SlotInfo};
 use co_core_types::{
-    View, are_truths, arith_fits, arith_gives, atomic_alone, atomic_with, atomic_with_two, await_fits,
-    delete_fits, handle_alone, handle_with, is_right, is_some_number, is_testable, joined, lib_alone,
-    lib_with, lib_with_two, loaded, number, pick_fits, plain_kind, pointer_to, referent, same_fits,
-    store_fits, truth, update_fits, updated, value_converts,
+    Known, View, are_truths, arith_fits, arith_gives, await_fits, choose_fits, delete_fits, is_right,
+    is_some_number, is_testable, joined, loaded, number, pick_fits, plain_kind, pointer_to, referent,
+    result_fits, same_fits, store_fits, truth, update_fits, updated, value_converts, value_fits,
 };
 use co_types::{ClassTable, CoType, Head};
 
@@ -212,5 +211,52 @@ pub(crate) fn awaited<'a>(holder: Option<&SlotInfo>, temp: bool, answer: Answer,
     Checked {
         fits: operand.fits && (ready.fits && (suspend.fits && (resume.fits && fits))),
         view: resume.view,
+    }
+}
+
+pub(crate) fn value(part: Checked<'_>, argument: bool, to: Known<'_>) -> bool
+    ensures { result ≡ (part.entry.fits && form.value_fits argument (known_type to.entry) (seen part.entry.view)) }
+{
+    part.fits && value_fits(argument, to, part.view)
+}
+
+pub(crate) fn results(to: Head, part: Checked<'_>) -> bool
+    ensures { result ≡ (part.entry.fits && form.result_fits to (seen part.entry.view)) }
+{
+    part.fits && result_fits(to, part.view)
+}
+
+pub(crate) fn chosen(to: Head, condition: Checked<'_>, x: bool, y: bool) -> bool
+    ensures { result ≡ (condition.entry.fits && (form.choose_fits to (seen condition.entry.view) && (x && y))) }
+{
+    condition.fits && (choose_fits(to, condition.view) && (x && y))
+}
+
+/// Whether an expression is the `Temp` that makes the object of a parameter.
+#[tactic(auto, using(crate::proofs::Forms::opened_temps))]
+pub(crate) fn is_argument(object: bool, e: &CoreExpr) -> bool
+    ensures { result ≡ (object && form.is_temp e.now) }
+{
+    object && is_temp(e)
+}
+
+#[tactic(auto, using(crate::proofs::Forms::opened_temps))]
+fn is_temp(e: &CoreExpr) -> bool
+    ensures { result ≡ form.is_temp e.now }
+{
+    match e {
+        CoreExpr::Temp(..) => true,
+        _ => false,
+    }
+}
+
+/// Whether an expression is the `Temp` of this slot.
+#[tactic(auto, using(crate::proofs::Forms::opened_temps))]
+pub(crate) fn makes_temp(holder: SlotId, e: &CoreExpr) -> bool
+    ensures { result ≡ form.makes_temp holder e.now }
+{
+    match e {
+        CoreExpr::Temp(slot, _, _) => slot.0 == holder.0,
+        _ => false,
     }
 }
