@@ -29,14 +29,21 @@ use Rattle.co_core_tree.specs.declared.units.UnitParts.{UnitParts}
 use Rattle.co_core_tree.specs.Slots.{slot_at}
 use Rattle.co_core_types.specs.Gives.{Gives, Nothing, Throws, Value, plain_shape, pointer_shape, number, truth, is_right, is_some_number, value_converts, arith_gives, field_place, referent, pointer_to, loaded, joined}
 use Rattle.co_core_types.specs.Forms.{store_fits, arith_fits, update_fits, updated, is_testable, same_fits, are_truths, pick_fits, handle_gives, atomic_gives, lib_gives, is_object, delete_fits, is_temp, makes_temp, await_fits, choose_fits, value_fits, result_fits}
-use Rattle.co_core_typed.specs.Tables.{slot_place, slot_type, param_types_of, after_first, is_plain, constructs, call_gives, throw_fits}
+use Rattle.co_core_typed.specs.Tables.{slot_place, slot_type, types_of, param_types_of, after_first, is_plain, constructs, call_gives, throw_fits}
 use Rattle.co_core_typed.specs.Rules.{gives, typed, init_typed, all_give, all_typed, args_typed, fields_typed, arguments_typed, members_typed, fields_of_head, has_members, inside}
-use Rattle.std.specs.Prelude.{Option, length, ◌<◌, ◌+◌}
-use Rattle.std.proofs.Common.{sym, drop, get_or}
+use Rattle.std.specs.Prelude.{Option, length, zero, suc, ◌<◌, ◌≤◌, ◌+◌}
+use Rattle.std.proofs.Common.{sym, drop, get_or, arith}
 use Rattle.std.proofs.lemmas.List.{drop_more}
+use Rattle.std.proofs.Math.Dec.{eqb-suc-zero}
 use Rattle.co_types.specs.declared.types.Head.{Head}
 use Rattle.co_core_typed.specs.Rules.{await_typed}
 use Rattle.co_core_typed.proofs.Forms.{gives_field, typed_field, gives_deref, typed_deref, gives_address, typed_address, gives_load, typed_load, gives_store, typed_store, gives_exchange, typed_exchange, gives_update, typed_update, gives_arith, typed_arith, gives_convert, typed_convert, gives_test, typed_test, gives_same, typed_same, gives_both, typed_both, gives_either, typed_either, gives_pick, typed_pick, gives_temp, typed_temp, gives_throw, typed_throw, gives_rethrow_ptr, typed_rethrow_ptr, gives_await, typed_await, gives_new, typed_new, gives_delete, typed_delete, typed_call, gives_call, gives_handle, typed_handle, gives_atomic, typed_atomic, gives_lib, typed_lib, typed_ctor, typed_members, typed_choose}
+
+drop_all : {A : Type 0} → (k : ℕ) (xs : List A) → length xs ≤ k → drop k xs ≡ []
+drop_all zero [] less = refl
+drop_all zero (x ∷ xs) less = absurd (omega (arith, less))
+drop_all (suc k) [] less = refl
+drop_all (suc k) (x ∷ xs) less = drop_all k xs (omega (arith, less))
 
 module _ (unit : UnitParts) (func : CoreFunc) (w : List ClassId) where
   pub fits_field : (whole : CoreExpr) (e : CoreExpr) (k : ℕ) (at : Span) (e' : CoreExpr) (be : Bool) (ge : Gives) (res : Bool) → whole ≡ expr.Field e k at → e' ≡ e → be ≡ typed unit func w e' → ge ≡ gives unit func w e' → res ≡ (be && is_right (field_place unit.classes (ge) k)) → res ≡ typed unit func w whole
@@ -269,6 +276,22 @@ module _ (unit : UnitParts) (func : CoreFunc) (w : List ClassId) where
       let o = typed_choose unit func w object to e x y in
       cc
 
-  -- the loops over arguments and members
-  pub argument_more : (callee : CoreFunc) (slots rest : List SlotId) (types : List CoType) (args : List Init) (k : ℕ) (d : Init) → k < length args → arguments_typed unit func w types (drop k args) ≡ arguments_typed unit func w types (get_or args k d ∷ drop (k + 1) args)
-  argument_more callee slots rest types args k d less = ap (arguments_typed unit func w types) (drop_more args k d less)
+  -- where there are more arguments than parameters, or more members than fields
+  pub arguments_none : (callee : CoreFunc) (rest : List SlotId) (args : List Init) (k : ℕ) (d : Init) (whole : Bool) → k < length args → length rest < 1 → arguments_typed unit func w (types_of callee rest) (drop k args) ≡ whole → false ≡ whole
+  arguments_none callee [] args k d whole less none keeps = sym (ap (arguments_typed unit func w []) (drop_more args k d less)) ∙ keeps
+  arguments_none callee (slot ∷ rest) args k d whole less none keeps = absurd (omega (arith, none))
+
+  pub members_none : (rest : List FieldInfo) (members : List Init) (k : ℕ) (d : Init) (whole : Bool) → k < length members → length rest < 1 → members_typed unit func w rest (drop k members) ≡ whole → false ≡ whole
+  members_none [] members k d whole less none keeps = sym (ap (members_typed unit func w []) (drop_more members k d less)) ∙ keeps
+  members_none (field ∷ rest) members k d whole less none keeps = absurd (omega (arith, none))
+
+  -- where all arguments, or all members, have been seen
+  pub arguments_done : (callee : CoreFunc) (rest : List SlotId) (args : List Init) (k : ℕ) (whole res : Bool) → length args ≤ k → res ≡ (length rest == 0) → arguments_typed unit func w (types_of callee rest) (drop k args) ≡ whole → res ≡ whole
+  arguments_done callee [] args k whole res less made keeps = made ∙ sym (ap (arguments_typed unit func w []) (drop_all k args less)) ∙ keeps
+  arguments_done callee (slot ∷ rest) args k whole res less made keeps =
+      made ∙ eqb-suc-zero (length rest) ∙ sym (ap (arguments_typed unit func w (types_of callee (slot ∷ rest))) (drop_all k args less)) ∙ keeps
+
+  pub members_done : (rest : List FieldInfo) (members : List Init) (k : ℕ) (whole res : Bool) → length members ≤ k → res ≡ (length rest == 0) → members_typed unit func w rest (drop k members) ≡ whole → res ≡ whole
+  members_done [] members k whole res less made keeps = made ∙ sym (ap (members_typed unit func w []) (drop_all k members less)) ∙ keeps
+  members_done (field ∷ rest) members k whole res less made keeps =
+      made ∙ eqb-suc-zero (length rest) ∙ sym (ap (members_typed unit func w (field ∷ rest)) (drop_all k members less)) ∙ keeps

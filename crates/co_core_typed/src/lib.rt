@@ -3,7 +3,9 @@
 
 mod checked;
 mod tables;
+mod walk;
 mod wholes;
 
 pub use checked::Checked;
+pub use walk::{Scene, check, check_await, fields_fit, init_fits};
 pub use wholes::Wholes;

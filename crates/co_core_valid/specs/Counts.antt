@@ -21,11 +21,11 @@ use Rattle.co_core_tree.specs.Acts.{Part, OfExpr, OfInit, Act, Does, Passes, Sta
 use Rattle.co_core_tree.specs.Sizes.{class_words}
 use Rattle.co_core_tree.specs.Slots.{Temporary, held_of, holds_class, is_held_kind, made, slot_at, temporaries}
 use Rattle.co_core_types.specs.Gives.{Gives, Place, Value, Nothing, Throws, Wrong, same_shape, same_target, shape_of}
-use Rattle.co_core_types.specs.Rules.{gives}
-use Rattle.co_core.specs.Bodies.{body_of, evaluated, fulls, func_acts, joined_acts, plan_fulls, role_fulls}
-use Rattle.co_core.specs.Jumps.{func_points}
-use Rattle.co_core.specs.Plans.{count_kind}
-use Rattle.co_core.specs.Scopes.{holder_of, is_mark, member}
+use Rattle.co_core_typed.specs.Rules.{gives}
+use Rattle.co_core_valid.specs.Bodies.{body_of, evaluated, fulls, func_acts, joined_acts, plan_fulls, role_fulls}
+use Rattle.co_core_valid.specs.Jumps.{func_points}
+use Rattle.co_core_valid.specs.Plans.{count_kind}
+use Rattle.co_core_valid.specs.Scopes.{holder_of, is_mark, member}
 
 -- ---- marks
 

@@ -16,7 +16,7 @@ use Rattle.co_core_tree.specs.declared.units.CoreFunc.{CoreFunc}
 use Rattle.co_core_tree.specs.declared.units.UnitParts.{UnitParts}
 use Rattle.co_core_tree.specs.Acts.{Act, Does, Passes, Starts, Keeps}
 use Rattle.co_core_tree.specs.Slots.{acts_of, init_acts_of, is_held, made, makes, slot_at}
-use Rattle.co_core.specs.Bodies.{Placed, body_of, fulls, func_acts, plan_fulls, role_fulls}
+use Rattle.co_core_valid.specs.Bodies.{Placed, body_of, fulls, func_acts, plan_fulls, role_fulls}
 
 -- ---- kinds
 

@@ -36,7 +36,7 @@ use Rattle.co_core_tree.specs.declared.units.PromisePlan.{PromisePlan}
 use Rattle.co_core_tree.specs.declared.units.CoreFunc.{CoreFunc}
 use Rattle.co_core_tree.specs.declared.units.UnitParts.{UnitParts}
 use Rattle.co_core_tree.specs.Acts.{Act, Does, Passes, Starts, Keeps}
-use Rattle.co_core.specs.Bodies.{Placed, body_of, func_acts}
+use Rattle.co_core_valid.specs.Bodies.{Placed, body_of, func_acts}
 
 module _ (unit : UnitParts) where
   abbrev pub class_held : ClassId → Bool

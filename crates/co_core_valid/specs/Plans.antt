@@ -34,10 +34,11 @@ use Rattle.co_core_tree.specs.Acts.{Act, Does, Passes, Starts, Keeps, suspends}
 use Rattle.co_core_tree.specs.Sizes.{dtor_of}
 use Rattle.co_core_tree.specs.Slots.{acts_of, init_acts_of, slot_at}
 use Rattle.co_core_types.specs.Gives.{is_void}
-use Rattle.co_core_types.specs.Rules.{after_first, is_class_target, is_plain, param_types_of, slot_type}
-use Rattle.co_core.specs.Bodies.{await_acts, body_of, func_acts, joined_acts, placed_fulls}
-use Rattle.co_core.specs.Scopes.{distinct, is_copy, is_param, is_promise, slot_is}
-use Rattle.co_core.specs.Typed.{arguments_typed, is_class_head}
+use Rattle.co_core_typed.specs.Tables.{after_first, is_class_target, is_plain, param_types_of, slot_type}
+use Rattle.co_core_valid.specs.Bodies.{await_acts, body_of, func_acts, joined_acts, placed_fulls}
+use Rattle.co_core_valid.specs.Scopes.{distinct, is_copy, is_param, is_promise, slot_is}
+use Rattle.co_core_typed.specs.Rules.{arguments_typed}
+use Rattle.co_core_valid.specs.Typed.{is_class_head}
 
 -- ---- parameters
 
@@ -208,14 +209,14 @@ module _ (unit : UnitParts) where
     abbrev pub coroutine_take : TakePlan → List Init → Bool
     coroutine_take take.Global [] = true
     coroutine_take (take.Own f) [] = takes_storage true f
-    coroutine_take (take.OwnWith f) args = takes_storage false f && arguments_typed unit func (after_first (param_types_of (callee f))) args
+    coroutine_take (take.OwnWith f) args = takes_storage false f && arguments_typed unit func [] (after_first (param_types_of (callee f))) args
     coroutine_take t args = false
 
     -- the promise's constructor is given all parameters or none [dcl.fct.def.coroutine]
     abbrev pub constructor_fits : ClassId → Option FuncId → Bool → List Init → Bool
     constructor_fits class None with_params args = false
     constructor_fits class (Some f) with_params args =
-        is_constructor class (callee f) && (arguments_typed unit func (after_first (param_types_of (callee f))) args && count_fits with_params args)
+        is_constructor class (callee f) && (arguments_typed unit func [] (after_first (param_types_of (callee f))) args && count_fits with_params args)
       where
         count_fits : Bool → List Init → Bool
         count_fits true inits = length inits == length func.params

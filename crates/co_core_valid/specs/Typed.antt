@@ -29,8 +29,10 @@ use Rattle.co_core_tree.specs.declared.units.CoreFunc.{CoreFunc}
 use Rattle.co_core_tree.specs.declared.units.UnitParts.{UnitParts}
 use Rattle.co_core_tree.specs.Slots.{slot_at}
 use Rattle.co_core_types.specs.Gives.{is_number, is_reference, is_void, is_scalar}
-use Rattle.co_core_types.specs.Rules.{after_first, await_fits, fields_of, gives, init_typed, is_class_target, is_object, is_thrown_class, makes_temp, param_types, param_types_of, slot_type, typed}
-use Rattle.co_core.specs.Bodies.{Placed, body_of}
+use Rattle.co_core_types.specs.Forms.{await_fits, is_object, makes_temp}
+use Rattle.co_core_typed.specs.Tables.{after_first, is_class_target, is_thrown_class, param_types, param_types_of, slot_type}
+use Rattle.co_core_typed.specs.Rules.{await_typed, fields_of, gives, init_typed, members_typed, typed}
+use Rattle.co_core_valid.specs.Bodies.{Placed, body_of}
 
 -- ---- slots
 
@@ -121,37 +123,21 @@ module _ (unit : UnitParts) (func : CoreFunc) where
   takes_this_alone class (slot ∷ []) = is_this class slot
   takes_this_alone class slots = false
 
-  abbrev pub fields_typed : List ClassId → List FieldInfo → List Init → Bool
-  fields_typed w [] [] = true
-  fields_typed w (field ∷ fields) (i ∷ is) = init_typed unit func w false field.of i && fields_typed w fields is
-  fields_typed w fields is = false
-
   -- a constructor and a destructor give nothing; the first parameter refers to the object [class.ctor] [class.dtor]
   abbrev pub role_typed : FuncRole → Bool
   role_typed role.Plain = true
   role_typed (role.Ctor class members) =
-      takes_this class func.params && (is_void (head_of func.result) && (not (is_some func.plan) && fields_typed (class ∷ []) (fields_of (slice_get unit.classes class.0)) members))
+      takes_this class func.params && (is_void (head_of func.result) && (not (is_some func.plan) && members_typed unit func (class ∷ []) (fields_of (slice_get unit.classes class.0)) members))
   role_typed (role.Dtor class) = takes_this_alone class func.params && (is_void (head_of func.result) && not (is_some func.plan))
 
   -- ---- plans
 
-  abbrev pub arguments_typed : List CoType → List Init → Bool
-  arguments_typed [] [] = true
-  arguments_typed (to ∷ types) (i ∷ is) = init_typed unit func [] true to i && arguments_typed types is
-  arguments_typed types is = false
-
   abbrev pub copy_typed : CopyPlan → Bool
   copy_typed copy = init_typed unit func [] false (slot_type func copy.to) copy.init
 
-  -- an initial or final await, as one in the body
-  abbrev pub await_typed : AwaitPlan → Bool
-  await_typed plan =
-      typed unit func [] plan.operand && (typed unit func [] plan.ready && (typed unit func [] plan.suspend && (typed unit func [] plan.resume &&
-      await_fits (slot_at func plan.holder) (makes_temp plan.holder plan.operand) plan.answer (gives unit func [] plan.operand) (gives unit func [] plan.ready) (gives unit func [] plan.suspend))))
-
   abbrev pub plan_typed : Option PromisePlan → Bool
   plan_typed None = true
-  plan_typed (Some plan) = list_all copy_typed plan.copies && (await_typed plan.initial && await_typed plan.last)
+  plan_typed (Some plan) = list_all copy_typed plan.copies && (await_typed unit func [] plan.initial && await_typed unit func [] plan.last)
 
   abbrev pub func_typed : Bool
   func_typed = result_fits_head (head_of func.result) && (list_all slot_fits func.slots && (role_typed func.role && (plan_typed func.plan && list_all placed_typed (body_of func))))

@@ -11,7 +11,7 @@ use Rattle.co_core_tree.specs.declared.units.CoreFunc.{CoreFunc}
 use Rattle.co_core_tree.specs.declared.units.UnitParts.{UnitParts}
 use Rattle.co_core_tree.specs.Acts.{Act, Does, Passes, Starts, Keeps, suspends}
 use Rattle.co_core_tree.specs.Slots.{init_acts_of, points}
-use Rattle.co_core.specs.Bodies.{Placed, Standing, body_of, func_acts, joined_acts, own_fulls}
+use Rattle.co_core_valid.specs.Bodies.{Placed, Standing, body_of, func_acts, joined_acts, own_fulls}
 
 -- ---- jumps
 

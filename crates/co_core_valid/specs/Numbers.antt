@@ -16,7 +16,7 @@ use Rattle.co_core_tree.specs.declared.units.GlobalInfo.{GlobalInfo}
 use Rattle.co_core_tree.specs.declared.units.CoreFunc.{CoreFunc}
 use Rattle.co_core_tree.specs.declared.units.UnitParts.{UnitParts}
 use Rattle.co_core_tree.specs.Acts.{Act, Does, Passes, Starts, Keeps}
-use Rattle.co_core.specs.Bodies.{func_acts}
+use Rattle.co_core_valid.specs.Bodies.{func_acts}
 
 -- whether an i64 holds a value of the type; a `std::size_t` it holds by its bits [basic.fundamental]
 abbrev pub holds_value : Num → ℤ → Bool

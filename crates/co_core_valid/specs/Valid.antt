@@ -1,13 +1,13 @@
 -- What the layers above may rest on.
-use Rattle.std.specs.Prelude.{Bool, ◌&&◌, IsTrue}
+use Rattle.std.specs.Prelude.{Bool, ◌&&◌, ◌↔◌, IsTrue}
 use Rattle.co_core_tree.specs.declared.units.UnitParts.{UnitParts}
-use Rattle.co_core.specs.Ids.{ids_held}
-use Rattle.co_core.specs.Typed.{all_typed}
-use Rattle.co_core.specs.Numbers.{numbers_fit}
-use Rattle.co_core.specs.Scopes.{all_visible, made_once}
-use Rattle.co_core.specs.Jumps.{ends_placed, jumps_placed, points_differ}
-use Rattle.co_core.specs.Plans.{ends_noexcept, finals_noexcept, main_fits, params_listed, plans_call, storage_fits}
-use Rattle.co_core.specs.Counts.{classes_nest, counts_fit, held_match, marks_match, sizes_fit}
+use Rattle.co_core_valid.specs.Ids.{ids_held}
+use Rattle.co_core_valid.specs.Typed.{all_typed}
+use Rattle.co_core_valid.specs.Numbers.{numbers_fit}
+use Rattle.co_core_valid.specs.Scopes.{all_visible, made_once}
+use Rattle.co_core_valid.specs.Jumps.{ends_placed, jumps_placed, points_differ}
+use Rattle.co_core_valid.specs.Plans.{ends_noexcept, finals_noexcept, main_fits, params_listed, plans_call, storage_fits}
+use Rattle.co_core_valid.specs.Counts.{classes_nest, counts_fit, held_match, marks_match, sizes_fit}
 
 -- A valid unit: each conversion, construction, scope and implicit call is written out, and nothing of it is wrong.
 pub record IsValid (unit : UnitParts) : Type 0 where
@@ -57,3 +57,7 @@ holds_of unit =
     ids_held unit && (all_typed unit && (numbers_fit unit && (all_visible unit && (jumps_placed unit && (points_differ unit && (ends_noexcept unit &&
     (finals_noexcept unit && (main_fits unit && (made_once unit && (ends_placed unit && (params_listed unit && (plans_call unit && (marks_match unit &&
     (storage_fits unit && (held_match unit && (classes_nest unit.classes && (sizes_fit unit && counts_fit unit)))))))))))))))))
+
+-- The one test holds exactly where each rule does.
+abbrev pub HoldsIsValid : Type 0
+HoldsIsValid = (unit : UnitParts) → IsTrue (holds_of unit) ↔ IsValid unit
