@@ -1,8 +1,7 @@
 -- What each form's parts come to, where the parts are those that the form has.
-use Rattle.std.specs.Prelude.{◌≡◌, ℕ, ◌==◌, Bool, true, false, ◌&&◌, List, [], ◌∷◌, slice_get}
+use Rattle.std.specs.Prelude.{◌≡◌, ℕ, ◌==◌, Bool, false, ◌&&◌, List, [], ◌∷◌, slice_get}
 use Rattle.std.specs.List.{list_all}
 use Rattle.std.proofs.Common.{refl, ap, ◌∙◌, map}
-use mathlib.Core.Former.{Count}
 use Rattle.co_base.specs.declared.kinds.Num.{Num}
 use Rattle.co_base.specs.declared.kinds.Op.{Op}
 use Rattle.co_base.specs.declared.ids.ClassId.{ClassId}
@@ -16,9 +15,8 @@ use Rattle.co_types.specs.Types.{head_of}
 use Rattle.co_core_tree.specs.declared.kinds.HandleOp.{HandleOp}
 use Rattle.co_core_tree.specs.declared.kinds.AtomicOp.{AtomicOp}
 use Rattle.co_core_tree.specs.declared.kinds.LibOp.{LibOp}
-use Rattle.co_core_tree.specs.declared.exprs.CoreExpr.{CoreExpr, Row_of-CoreExpr, end_of-CoreExpr, more_of-CoreExpr, items-the_row-CoreExpr, items_hidden-the_row-CoreExpr-4, Row_of-Init, end_of-Init, more_of-Init, items-the_row-Init, items_hidden-the_row-Init-1}
+use Rattle.co_core_tree.specs.declared.exprs.CoreExpr.{CoreExpr}
 use Rattle.co_core_tree.specs.declared.exprs.CoreExpr.TheVariants as expr
-use Rattle.co_core_tree.specs.declared.exprs.CoreExpr.TheBlock.{shape-the_row-CoreExpr-0, hidden-the_row-CoreExpr-0, shown-the_row-CoreExpr-0, shape-the_row-Init-2, hidden-the_row-Init-2, shown-the_row-Init-2, shape-the_row-AwaitPlan-3, hidden-the_row-AwaitPlan-3, shown-the_row-AwaitPlan-3, shape-the_row-NewPlan-5, hidden-the_row-NewPlan-5, shown-the_row-NewPlan-5, shape-the_row-DeletePlan-6, hidden-the_row-DeletePlan-6, shown-the_row-DeletePlan-6}
 use Rattle.co_core_tree.specs.declared.exprs.Init.{Init}
 use Rattle.co_core_tree.specs.declared.exprs.Init.TheVariants as init
 use Rattle.co_core_tree.specs.declared.exprs.AwaitPlan.{AwaitPlan}
@@ -28,16 +26,16 @@ use Rattle.co_core_tree.specs.declared.units.CoreFunc.{CoreFunc}
 use Rattle.co_core_tree.specs.declared.units.UnitParts.{UnitParts}
 use Rattle.co_core_tree.specs.Slots.{slot_at}
 use Rattle.co_core_types.specs.Gives.{Gives, Nothing, Throws, Value, plain_shape, pointer_shape, number, truth, is_right, is_some_number, value_converts, arith_gives, field_place, referent, pointer_to, loaded, joined}
-use Rattle.co_core_types.specs.Forms.{store_fits, arith_fits, update_fits, updated, is_testable, same_fits, are_truths, pick_fits, handle_gives, atomic_gives, lib_gives, is_object, delete_fits, is_temp, makes_temp, await_fits, choose_fits, value_fits, result_fits}
-use Rattle.co_core_typed.specs.Tables.{slot_place, slot_type, types_of, param_types_of, after_first, is_plain, constructs, call_gives, throw_fits}
-use Rattle.co_core_typed.specs.Rules.{gives, typed, init_typed, all_give, all_typed, args_typed, fields_typed, arguments_typed, members_typed, fields_of_head, has_members, inside}
-use Rattle.std.specs.Prelude.{Option, length, zero, suc, ◌<◌, ◌≤◌, ◌+◌}
-use Rattle.std.proofs.Common.{sym, drop, get_or, arith}
+use Rattle.co_core_types.specs.Forms.{store_fits, arith_fits, update_fits, updated, is_testable, same_fits, are_truths, pick_fits, handle_gives, atomic_gives, lib_gives, is_object, delete_fits, choose_fits}
+use Rattle.co_core_typed.specs.Tables.{slot_place, slot_type, types_of, param_types_of, after_first, is_plain, constructs, throw_fits}
+use Rattle.co_core_typed.specs.Rules.{gives, typed, init_typed, arguments_typed, members_typed, fields_of_head, has_members, inside}
+use Rattle.std.specs.Prelude.{Option, length, zero, suc, ◌<◌, ◌≤◌}
+use Rattle.std.proofs.Common.{sym, drop, arith}
 use Rattle.std.proofs.lemmas.List.{drop_more}
 use Rattle.std.proofs.Math.Dec.{eqb-suc-zero}
 use Rattle.co_types.specs.declared.types.Head.{Head}
 use Rattle.co_core_typed.specs.Rules.{await_typed}
-use Rattle.co_core_typed.proofs.Forms.{gives_field, typed_field, gives_deref, typed_deref, gives_address, typed_address, gives_load, typed_load, gives_store, typed_store, gives_exchange, typed_exchange, gives_update, typed_update, gives_arith, typed_arith, gives_convert, typed_convert, gives_test, typed_test, gives_same, typed_same, gives_both, typed_both, gives_either, typed_either, gives_pick, typed_pick, gives_temp, typed_temp, gives_throw, typed_throw, gives_rethrow_ptr, typed_rethrow_ptr, gives_await, typed_await, gives_new, typed_new, gives_delete, typed_delete, typed_call, gives_call, gives_handle, typed_handle, gives_atomic, typed_atomic, gives_lib, typed_lib, typed_ctor, typed_members, typed_choose}
+use Rattle.co_core_typed.proofs.Forms.{gives_field, typed_field, gives_deref, typed_deref, gives_address, typed_address, gives_load, typed_load, gives_store, typed_store, gives_exchange, typed_exchange, gives_update, typed_update, gives_arith, typed_arith, gives_convert, typed_convert, gives_test, typed_test, gives_same, typed_same, gives_both, typed_both, gives_either, typed_either, gives_pick, typed_pick, gives_temp, typed_temp, gives_throw, typed_throw, gives_rethrow_ptr, typed_rethrow_ptr, gives_await, typed_await, gives_new, typed_new, gives_delete, typed_delete, typed_call, gives_handle, typed_handle, gives_atomic, typed_atomic, gives_lib, typed_lib, typed_ctor, typed_members, typed_choose}
 
 drop_all : {A : Type 0} → (k : ℕ) (xs : List A) → length xs ≤ k → drop k xs ≡ []
 drop_all zero [] less = refl

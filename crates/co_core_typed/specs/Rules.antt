@@ -1,38 +1,13 @@
 -- The types that each form of the core tree takes and gives.
-use Rattle.std.specs.Prelude.{ℕ, Bool, true, false, not, ◌||◌, ◌&&◌, nat_le, ◌==◌, if◌then◌else◌, List, [], ◌∷◌, length, Option, None, Some, slice_get, bytes_eq}
-use Rattle.std.specs.List.{list_all, list_any}
-use Rattle.co_base.specs.declared.kinds.Num.{Num}
-use Rattle.co_base.specs.declared.kinds.Num.TheVariants as num
-use Rattle.co_base.specs.declared.kinds.Op.{Op}
-use Rattle.co_base.specs.declared.kinds.Op.TheVariants as op
-use Rattle.co_base.specs.declared.kinds.AtomicKind.{AtomicKind}
-use Rattle.co_base.specs.declared.kinds.AtomicKind.TheVariants as atomic
+use Rattle.std.specs.Prelude.{Bool, true, false, ◌&&◌, List, [], ◌∷◌, Option, None, Some, slice_get}
 use Rattle.co_base.specs.declared.ids.ClassId.{ClassId}
 use Rattle.co_base.specs.declared.ids.FuncId.{FuncId}
-use Rattle.co_base.specs.declared.ids.SlotId.{SlotId}
 use Rattle.co_types.specs.declared.types.CoType.{CoType}
-use Rattle.co_types.specs.declared.types.CoType.TheVariants as type
 use Rattle.co_types.specs.declared.types.Head.{Head}
 use Rattle.co_types.specs.declared.types.Head.TheVariants as head
 use Rattle.co_types.specs.declared.classes.ClassInfo.{ClassInfo}
 use Rattle.co_types.specs.declared.classes.FieldInfo.{FieldInfo}
-use Rattle.co_types.specs.declared.classes.FuncInfo.{FuncInfo}
-use Rattle.co_types.specs.Types.{head_of, target_of, same_head, same_type}
-use Rattle.co_types.specs.Classes.{is_destructor_name}
-use Rattle.co_core_tree.specs.declared.kinds.Answer.{Answer}
-use Rattle.co_core_tree.specs.declared.kinds.Answer.TheVariants as answer
-use Rattle.co_core_tree.specs.declared.kinds.HandleOp.{HandleOp}
-use Rattle.co_core_tree.specs.declared.kinds.HandleOp.TheVariants as handle
-use Rattle.co_core_tree.specs.declared.kinds.AtomicOp.{AtomicOp}
-use Rattle.co_core_tree.specs.declared.kinds.AtomicOp.TheVariants as act
-use Rattle.co_core_tree.specs.declared.kinds.LibOp.{LibOp}
-use Rattle.co_core_tree.specs.declared.kinds.LibOp.TheVariants as lib
-use Rattle.co_core_tree.specs.declared.kinds.SlotKind.{SlotKind}
-use Rattle.co_core_tree.specs.declared.kinds.SlotKind.TheVariants as kind
-use Rattle.co_core_tree.specs.declared.units.SlotInfo.{SlotInfo}
-use Rattle.co_core_tree.specs.declared.units.GlobalInfo.{GlobalInfo}
-use Rattle.co_core_tree.specs.declared.units.FuncRole.{FuncRole}
-use Rattle.co_core_tree.specs.declared.units.FuncRole.TheVariants as role
+use Rattle.co_types.specs.Types.{head_of}
 use Rattle.co_core_tree.specs.declared.units.CoreFunc.{CoreFunc}
 use Rattle.co_core_tree.specs.declared.units.UnitParts.{UnitParts}
 use Rattle.co_core_tree.specs.declared.exprs.CoreExpr.{CoreExpr, Row_of-CoreExpr, end_of-CoreExpr, more_of-CoreExpr, Row_of-Init, end_of-Init, more_of-Init, end_of-AwaitPlan, more_of-AwaitPlan, end_of-NewPlan, more_of-NewPlan, end_of-DeletePlan, more_of-DeletePlan}
@@ -41,8 +16,7 @@ use Rattle.co_core_tree.specs.declared.exprs.Init.{Init}
 use Rattle.co_core_tree.specs.declared.exprs.AwaitPlan.{AwaitPlan}
 use Rattle.co_core_tree.specs.declared.exprs.Init.TheVariants as init
 use Rattle.co_core_tree.specs.Slots.{slot_at}
-use Rattle.co_core_types.specs.Gives.{Shape, Gives, Place, Value, Nothing, Throws, Wrong, shape_of, plain_shape, number, truth, pointer_shape, address_shape, is_scalar, is_reference, is_assignable, is_nullable, is_pointer, is_handle, is_null, is_void, same_shape, is_address, converts, plain, is_right, is_number, is_some_number, value_converts, is_place_of, is_place_of_target, is_shift, is_comparison, arith_gives, field_place, referent, pointer_to, loaded, joined, result_gives, class_place, whole_place}
-
+use Rattle.co_core_types.specs.Gives.{Gives, Value, Nothing, Throws, plain_shape, number, truth, pointer_shape, is_right, is_some_number, value_converts, arith_gives, field_place, referent, pointer_to, loaded, joined, whole_place}
 use Rattle.co_core_types.specs.Forms.{store_fits, arith_fits, update_fits, updated, is_testable, same_fits, are_truths, pick_fits, handle_gives, atomic_gives, lib_gives, is_object, delete_fits, is_raw, value_fits, result_fits, choose_fits, is_temp, makes_temp, await_fits}
 use Rattle.co_core_typed.specs.Tables.{slot_place, global_place, slot_type, param_types_of, after_first, is_plain, constructs, call_gives, throw_fits}
 

@@ -1,14 +1,8 @@
 -- What the tables of a unit say of slots, functions and thrown types.
-use Rattle.std.specs.Prelude.{ℕ, Bool, true, false, not, ◌||◌, ◌&&◌, nat_le, ◌==◌, if◌then◌else◌, List, [], ◌∷◌, length, Option, None, Some, slice_get, bytes_eq}
+use Rattle.std.specs.Prelude.{ℕ, Bool, true, false, not, ◌||◌, ◌&&◌, nat_le, List, [], ◌∷◌, length, Option, None, Some, slice_get, bytes_eq}
 use Rattle.std.specs.List.{list_all, list_any}
-use Rattle.co_base.specs.declared.kinds.Num.{Num}
 use Rattle.co_base.specs.declared.kinds.Num.TheVariants as num
-use Rattle.co_base.specs.declared.kinds.Op.{Op}
-use Rattle.co_base.specs.declared.kinds.Op.TheVariants as op
-use Rattle.co_base.specs.declared.kinds.AtomicKind.{AtomicKind}
-use Rattle.co_base.specs.declared.kinds.AtomicKind.TheVariants as atomic
 use Rattle.co_base.specs.declared.ids.ClassId.{ClassId}
-use Rattle.co_base.specs.declared.ids.FuncId.{FuncId}
 use Rattle.co_base.specs.declared.ids.SlotId.{SlotId}
 use Rattle.co_types.specs.declared.types.CoType.{CoType}
 use Rattle.co_types.specs.declared.types.CoType.TheVariants as type
@@ -17,32 +11,16 @@ use Rattle.co_types.specs.declared.types.Head.TheVariants as head
 use Rattle.co_types.specs.declared.classes.ClassInfo.{ClassInfo}
 use Rattle.co_types.specs.declared.classes.FieldInfo.{FieldInfo}
 use Rattle.co_types.specs.declared.classes.FuncInfo.{FuncInfo}
-use Rattle.co_types.specs.Types.{head_of, target_of, same_head, same_type}
+use Rattle.co_types.specs.Types.{head_of, target_of, same_head}
 use Rattle.co_types.specs.Classes.{is_destructor_name}
-use Rattle.co_core_tree.specs.declared.kinds.Answer.{Answer}
-use Rattle.co_core_tree.specs.declared.kinds.Answer.TheVariants as answer
-use Rattle.co_core_tree.specs.declared.kinds.HandleOp.{HandleOp}
-use Rattle.co_core_tree.specs.declared.kinds.HandleOp.TheVariants as handle
-use Rattle.co_core_tree.specs.declared.kinds.AtomicOp.{AtomicOp}
-use Rattle.co_core_tree.specs.declared.kinds.AtomicOp.TheVariants as act
-use Rattle.co_core_tree.specs.declared.kinds.LibOp.{LibOp}
-use Rattle.co_core_tree.specs.declared.kinds.LibOp.TheVariants as lib
-use Rattle.co_core_tree.specs.declared.kinds.SlotKind.{SlotKind}
-use Rattle.co_core_tree.specs.declared.kinds.SlotKind.TheVariants as kind
 use Rattle.co_core_tree.specs.declared.units.SlotInfo.{SlotInfo}
 use Rattle.co_core_tree.specs.declared.units.GlobalInfo.{GlobalInfo}
 use Rattle.co_core_tree.specs.declared.units.FuncRole.{FuncRole}
 use Rattle.co_core_tree.specs.declared.units.FuncRole.TheVariants as role
 use Rattle.co_core_tree.specs.declared.units.CoreFunc.{CoreFunc}
-use Rattle.co_core_tree.specs.declared.units.UnitParts.{UnitParts}
-use Rattle.co_core_tree.specs.declared.exprs.CoreExpr.{CoreExpr, Row_of-CoreExpr, end_of-CoreExpr, more_of-CoreExpr, Row_of-Init, end_of-Init, more_of-Init, end_of-AwaitPlan, more_of-AwaitPlan, end_of-NewPlan, more_of-NewPlan, end_of-DeletePlan, more_of-DeletePlan}
-use Rattle.co_core_tree.specs.declared.exprs.CoreExpr.TheVariants as expr
-use Rattle.co_core_tree.specs.declared.exprs.Init.{Init}
-use Rattle.co_core_tree.specs.declared.exprs.Init.TheVariants as init
 use Rattle.co_core_tree.specs.Slots.{slot_at}
-use Rattle.co_core_types.specs.Gives.{Shape, Gives, Place, Value, Nothing, Throws, Wrong, shape_of, plain_shape, number, truth, pointer_shape, address_shape, is_scalar, is_reference, is_assignable, is_nullable, is_pointer, is_handle, is_null, is_void, same_shape, is_address, converts, plain, is_right, is_number, is_some_number, value_converts, is_place_of, is_place_of_target, is_shift, is_comparison, arith_gives, field_place, referent, pointer_to, loaded, joined, result_gives, class_place, whole_place}
-
-use Rattle.co_core_types.specs.Forms.{is_some_number_type, is_class_of}
+use Rattle.co_core_types.specs.Gives.{Gives, Place, Wrong, is_reference, is_number, is_place_of, result_gives}
+use Rattle.co_core_types.specs.Forms.{is_some_number_type}
 
 -- ---- slots and globals
 
@@ -140,4 +118,3 @@ throw_fits_head classes of h g = false
 -- `int`, `long` and `bool` are thrown by value, an object of such a class is copied from its place
 abbrev pub throw_fits : List ClassInfo → CoType → Gives → Bool
 throw_fits classes of g = throw_fits_head classes of (head_of of) g
-

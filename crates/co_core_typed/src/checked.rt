@@ -9,9 +9,10 @@ use crate::tables::{field_place, throw_fits};
 use co_base::{Num, Op, SlotId};
 use co_core_tree::{Answer, CoreExpr, SlotInfo};
 use co_core_types::{
-    Known, View, are_truths, arith_fits, arith_gives, await_fits, choose_fits, delete_fits, is_right,
-    is_some_number, is_testable, joined, loaded, number, pick_fits, plain_kind, pointer_to, referent,
-    result_fits, same_fits, store_fits, truth, update_fits, updated, value_converts, value_fits,
+    Known, View, are_truths, arith_fits, arith_gives, await_fits, choose_fits, delete_fits,
+    is_right, is_some_number, is_testable, joined, loaded, number, pick_fits, plain_kind,
+    pointer_to, referent, result_fits, same_fits, store_fits, truth, update_fits, updated,
+    value_converts, value_fits,
 };
 use co_types::{ClassTable, CoType, Head};
 
@@ -100,7 +101,13 @@ pub(crate) fn exchange<'a>(place: Checked<'a>, value: Checked<'a>) -> Checked<'a
     }
 }
 
-pub(crate) fn update<'a>(op: Op, num: Num, place: Checked<'a>, value: Checked<'a>, old: bool) -> Checked<'a>
+pub(crate) fn update<'a>(
+    op: Op,
+    num: Num,
+    place: Checked<'a>,
+    value: Checked<'a>,
+    old: bool,
+) -> Checked<'a>
     ensures fits { result.fits ≡ (value.entry.fits && (place.entry.fits && form.update_fits op num (seen place.entry.view) (seen value.entry.view))) }
     ensures view { seen result.view ≡ form.updated old (seen place.entry.view) }
 {
@@ -203,7 +210,15 @@ pub(crate) fn delete<'a>(of: &CoType, part: Checked<'a>) -> Checked<'a>
 }
 
 /// An await by its holder, whether its operand is the `Temp` of that, its answer, and its operand, `ready`, `suspend` and `resume`.
-pub(crate) fn awaited<'a>(holder: Option<&SlotInfo>, temp: bool, answer: Answer, operand: Checked<'a>, ready: Checked<'a>, suspend: Checked<'a>, resume: Checked<'a>) -> Checked<'a>
+pub(crate) fn awaited<'a>(
+    holder: Option<&SlotInfo>,
+    temp: bool,
+    answer: Answer,
+    operand: Checked<'a>,
+    ready: Checked<'a>,
+    suspend: Checked<'a>,
+    resume: Checked<'a>,
+) -> Checked<'a>
     ensures fits { result.fits ≡ (operand.entry.fits && (ready.entry.fits && (suspend.entry.fits && (resume.entry.fits && form.await_fits (option_copied holder.entry) temp answer (seen operand.entry.view) (seen ready.entry.view) (seen suspend.entry.view))))) }
     ensures view { seen result.view ≡ seen resume.entry.view }
 {

@@ -11,7 +11,8 @@ ghost use Rattle.co_core_typed.specs.Tables as spec;
 use co_base::{ClassId, FuncId, Num, SlotId};
 use co_core_tree::{CoreFunc, FuncRole, GlobalInfo, SlotInfo, UnitParts};
 use co_core_types::{
-    Known, View, is_number, is_place_of, is_reference, is_same_head, is_some_number_type, result_gives,
+    Known, View, is_number, is_place_of, is_reference, is_same_head, is_some_number_type,
+    result_gives,
 };
 use co_types::{ClassInfo, ClassTable, CoType, FieldInfo, FuncInfo, Head};
 use sqlite_items::at;
@@ -202,7 +203,8 @@ fn is_constructor(class: ClassId, name: &[u8], func: &FuncInfo) -> bool
 fn is_declared_special(class: ClassId, name: &[u8], func: &FuncInfo) -> bool
     ensures { result ≡ spec.is_declared_special class name.now func.now }
 {
-    !func.is_implicit && (is_destructor_name(name, func.name.as_slice()) || is_constructor(class, name, func))
+    !func.is_implicit
+        && (is_destructor_name(name, func.name.as_slice()) || is_constructor(class, name, func))
 }
 
 fn declares_special(class: ClassId, name: &[u8], funcs: &[FuncInfo]) -> bool
@@ -224,7 +226,8 @@ fn is_thrown_info(class: ClassId, info: &ClassInfo) -> bool
     let fields = info.fields.as_slice();
     1 <= fields.len()
         && (fields.len() <= 3
-            && (are_numbers(fields) && !declares_special(class, info.name.as_slice(), info.funcs.as_slice())))
+            && (are_numbers(fields)
+                && !declares_special(class, info.name.as_slice(), info.funcs.as_slice())))
 }
 
 /// Whether objects of the class may be thrown [except.throw].

@@ -11,11 +11,13 @@ ghost use Rattle.co_core_typed.specs.Seen.{wholes_of};
 ghost use Rattle.co_core_typed.specs.Tables as table;
 
 use crate::checked::{
-    Checked, address, arith, awaited, chosen, convert, delete, deref, exchange, field, given, is_argument,
-    load, logical, makes_temp, named, one, pick, results, rethrow, same, store, test, throw, update, value,
+    Checked, address, arith, awaited, chosen, convert, delete, deref, exchange, field, given,
+    is_argument, load, logical, makes_temp, named, one, pick, results, rethrow, same, store, test,
+    throw, update, value,
 };
 use crate::tables::{
-    call_gives, class_info, constructs, func_at, global_place, is_plain, slot_of, slot_place, slot_type,
+    call_gives, class_info, constructs, func_at, global_place, is_plain, slot_of, slot_place,
+    slot_type,
 };
 use crate::wholes::{Wholes, whole_place};
 use co_base::SlotId;
@@ -23,8 +25,8 @@ use co_core_tree::{
     AtomicOp, AwaitPlan, CoreExpr, CoreFunc, HandleOp, Init, LibOp, NewPlan, UnitParts,
 };
 use co_core_types::{
-    Known, View, atomic_alone, atomic_with, atomic_with_two, handle_alone, handle_with, is_object, is_raw,
-    lib_alone, lib_with, lib_with_two, number, plain_kind, pointer_kind,
+    Known, View, atomic_alone, atomic_with, atomic_with_two, handle_alone, handle_with, is_object,
+    is_raw, lib_alone, lib_with, lib_with_two, number, plain_kind, pointer_kind,
 };
 use co_types::{FieldInfo, Head};
 
@@ -47,27 +49,76 @@ pub fn check<'a>(scene: Scene<'a>, e: &'a CoreExpr, wholes: &Wholes<'_>) -> Chec
         CoreExpr::Null(_) => given(View::Value(plain_kind(Head::NullPtr))),
         CoreExpr::Slot(slot, _) => named(slot_place(scene.func, *slot)),
         CoreExpr::Global(global, _) => named(global_place(scene.unit.globals.as_slice(), *global)),
-        CoreExpr::Field(object, number, _) => field(&scene.unit.classes, check(scene, object.get(), wholes), *number),
+        CoreExpr::Field(object, number, _) => field(
+            &scene.unit.classes,
+            check(scene, object.get(), wholes),
+            *number,
+        ),
         CoreExpr::Deref(pointer, _) => deref(check(scene, pointer.get(), wholes)),
         CoreExpr::Address(place, _) => address(check(scene, place.get(), wholes)),
         CoreExpr::Whole(at, _) => named(whole_place(wholes, *at)),
         CoreExpr::Load(place, _) => load(check(scene, place.get(), wholes)),
-        CoreExpr::Store(place, value, _) => store(check(scene, place.get(), wholes), check(scene, value.get(), wholes)),
-        CoreExpr::Exchange(place, value, _) => exchange(check(scene, place.get(), wholes), check(scene, value.get(), wholes)),
-        CoreExpr::Update(op, num, place, value, old, _) => update(*op, *num, check(scene, place.get(), wholes), check(scene, value.get(), wholes), *old),
-        CoreExpr::Arith(op, num, left, right, _) => arith(*op, *num, check(scene, left.get(), wholes), check(scene, right.get(), wholes)),
+        CoreExpr::Store(place, value, _) => store(
+            check(scene, place.get(), wholes),
+            check(scene, value.get(), wholes),
+        ),
+        CoreExpr::Exchange(place, value, _) => exchange(
+            check(scene, place.get(), wholes),
+            check(scene, value.get(), wholes),
+        ),
+        CoreExpr::Update(op, num, place, value, old, _) => update(
+            *op,
+            *num,
+            check(scene, place.get(), wholes),
+            check(scene, value.get(), wholes),
+            *old,
+        ),
+        CoreExpr::Arith(op, num, left, right, _) => arith(
+            *op,
+            *num,
+            check(scene, left.get(), wholes),
+            check(scene, right.get(), wholes),
+        ),
         CoreExpr::Convert(num, part, _) => convert(*num, check(scene, part.get(), wholes)),
         CoreExpr::Test(part, _) => test(check(scene, part.get(), wholes)),
-        CoreExpr::Same(left, right, _) => same(check(scene, left.get(), wholes), check(scene, right.get(), wholes)),
-        CoreExpr::Both(left, right, _) => logical(check(scene, left.get(), wholes), check(scene, right.get(), wholes)),
-        CoreExpr::Either(left, right, _) => logical(check(scene, left.get(), wholes), check(scene, right.get(), wholes)),
-        CoreExpr::Pick(condition, x, y, _) => pick(check(scene, condition.get(), wholes), check(scene, x.get(), wholes), check(scene, y.get(), wholes)),
-        CoreExpr::Call(func, args, _) => call(scene, args.as_slice(), func_at(scene.unit.funcs.as_slice(), *func), wholes),
+        CoreExpr::Same(left, right, _) => same(
+            check(scene, left.get(), wholes),
+            check(scene, right.get(), wholes),
+        ),
+        CoreExpr::Both(left, right, _) => logical(
+            check(scene, left.get(), wholes),
+            check(scene, right.get(), wholes),
+        ),
+        CoreExpr::Either(left, right, _) => logical(
+            check(scene, left.get(), wholes),
+            check(scene, right.get(), wholes),
+        ),
+        CoreExpr::Pick(condition, x, y, _) => pick(
+            check(scene, condition.get(), wholes),
+            check(scene, x.get(), wholes),
+            check(scene, y.get(), wholes),
+        ),
+        CoreExpr::Call(func, args, _) => call(
+            scene,
+            args.as_slice(),
+            func_at(scene.unit.funcs.as_slice(), *func),
+            wholes,
+        ),
         CoreExpr::Temp(slot, init, _) => Checked {
-            fits: init_fits(scene, init.get(), slot_type(scene.func, *slot), false, wholes),
+            fits: init_fits(
+                scene,
+                init.get(),
+                slot_type(scene.func, *slot),
+                false,
+                wholes,
+            ),
             view: slot_place(scene.func, *slot),
         },
-        CoreExpr::Throw(of, part, _) => throw(&scene.unit.classes, of, check(scene, part.get(), wholes)),
+        CoreExpr::Throw(of, part, _) => throw(
+            &scene.unit.classes,
+            of,
+            check(scene, part.get(), wholes),
+        ),
         CoreExpr::Rethrow(_) => given(View::Throws),
         CoreExpr::Terminate(_) => given(View::Nothing),
         CoreExpr::Current(_) => given(View::Value(plain_kind(Head::ExceptionPtr))),
@@ -92,7 +143,15 @@ pub fn check_await<'a>(scene: Scene<'a>, plan: &'a AwaitPlan, wholes: &Wholes<'_
     let suspend = check(scene, &plan.suspend, wholes);
     let resume = check(scene, &plan.resume, wholes);
     let temp = makes_temp(plan.holder, &plan.operand);
-    awaited(slot_of(scene.func, plan.holder), temp, plan.answer, operand, ready, suspend, resume)
+    awaited(
+        slot_of(scene.func, plan.holder),
+        temp,
+        plan.answer,
+        operand,
+        ready,
+        suspend,
+        resume,
+    )
 }
 
 #[cycle(typing)]
@@ -108,7 +167,12 @@ fn check_new<'a>(scene: Scene<'a>, plan: &'a NewPlan, wholes: &Wholes<'_>) -> Ch
 }
 
 #[cycle(typing)]
-fn call<'a>(scene: Scene<'a>, args: &'a [Init], callee: Option<&'a CoreFunc>, wholes: &Wholes<'_>) -> Checked<'a>
+fn call<'a>(
+    scene: Scene<'a>,
+    args: &'a [Init],
+    callee: Option<&'a CoreFunc>,
+    wholes: &Wholes<'_>,
+) -> Checked<'a>
     ensures fits { result.fits ≡ (table.is_plain (option_copied callee.entry) && arguments_typed scene.entry.unit.now scene.entry.func.now (wholes_of wholes.now) (table.param_types_of (option_copied callee.entry)) args.now) }
     ensures view { seen result.view ≡ table.call_gives (option_copied callee.entry) }
 {
@@ -119,7 +183,12 @@ fn call<'a>(scene: Scene<'a>, args: &'a [Init], callee: Option<&'a CoreFunc>, wh
 }
 
 #[cycle(typing)]
-fn call_fits(scene: Scene<'_>, args: &[Init], callee: Option<&CoreFunc>, wholes: &Wholes<'_>) -> bool
+fn call_fits(
+    scene: Scene<'_>,
+    args: &[Init],
+    callee: Option<&CoreFunc>,
+    wholes: &Wholes<'_>,
+) -> bool
     ensures { result ≡ arguments_typed scene.entry.unit.now scene.entry.func.now (wholes_of wholes.now) (table.param_types_of (option_copied callee.entry)) args.now }
 {
     match callee {
@@ -131,11 +200,23 @@ fn call_fits(scene: Scene<'_>, args: &[Init], callee: Option<&CoreFunc>, wholes:
 /// Whether an initializer makes an object of the type; the flag tells whether that is the object of a parameter.
 #[cycle(typing)]
 #[tactic(auto, using(crate::proofs::Forms::opened))]
-pub fn init_fits(scene: Scene<'_>, init: &Init, to: Known<'_>, object: bool, wholes: &Wholes<'_>) -> bool
+pub fn init_fits(
+    scene: Scene<'_>,
+    init: &Init,
+    to: Known<'_>,
+    object: bool,
+    wholes: &Wholes<'_>,
+) -> bool
     ensures { result ≡ init_typed scene.entry.unit.now scene.entry.func.now (wholes_of wholes.now) object (known_type to.entry) init.now }
 {
     match init {
-        Init::Ctor(func, args) => constructor_fits(scene, args.as_slice(), to.head(), func_at(scene.unit.funcs.as_slice(), *func), wholes),
+        Init::Ctor(func, args) => constructor_fits(
+            scene,
+            args.as_slice(),
+            to.head(),
+            func_at(scene.unit.funcs.as_slice(), *func),
+            wholes,
+        ),
         Init::Members(members) => members_fit(scene, members.as_slice(), to.head(), wholes),
         Init::Value(e) => value(check(scene, e, wholes), is_argument(object, e), to),
         Init::Result(e) => results(to.head(), check(scene, e, wholes)),
@@ -150,7 +231,13 @@ pub fn init_fits(scene: Scene<'_>, init: &Init, to: Known<'_>, object: bool, who
 }
 
 #[cycle(typing)]
-fn constructor_fits(scene: Scene<'_>, args: &[Init], head: Head, callee: Option<&CoreFunc>, wholes: &Wholes<'_>) -> bool
+fn constructor_fits(
+    scene: Scene<'_>,
+    args: &[Init],
+    head: Head,
+    callee: Option<&CoreFunc>,
+    wholes: &Wholes<'_>,
+) -> bool
     ensures { result ≡ (table.constructs (option_copied callee.entry) head && arguments_typed scene.entry.unit.now scene.entry.func.now (wholes_of wholes.now) (table.after_first (table.param_types_of (option_copied callee.entry))) args.now) }
 {
     match callee {
@@ -172,7 +259,13 @@ fn after_this(scene: Scene<'_>, args: &[Init], callee: &CoreFunc, wholes: &Whole
 
 /// Whether each argument makes what its parameter holds.
 #[cycle(typing)]
-fn arguments_fit(scene: Scene<'_>, args: &[Init], callee: &CoreFunc, params: &[SlotId], wholes: &Wholes<'_>) -> bool
+fn arguments_fit(
+    scene: Scene<'_>,
+    args: &[Init],
+    callee: &CoreFunc,
+    params: &[SlotId],
+    wholes: &Wholes<'_>,
+) -> bool
     ensures { result ≡ arguments_typed scene.entry.unit.now scene.entry.func.now (wholes_of wholes.now) (table.types_of callee.now params.now) args.now }
 {
     let mut rest = params;
@@ -194,7 +287,12 @@ fn members_fit(scene: Scene<'_>, members: &[Init], to: Head, wholes: &Wholes<'_>
 {
     match to {
         Head::Class(class) => match class_info(&scene.unit.classes, class) {
-            Some(info) => fields_fit(scene, members, info.fields.as_slice(), &Wholes::Inside(class, &*wholes)),
+            Some(info) => fields_fit(
+                scene,
+                members,
+                info.fields.as_slice(),
+                &Wholes::Inside(class, &*wholes),
+            ),
             None => false,
         },
         Head::SuspendAlways | Head::SuspendNever => members.is_empty(),
@@ -204,7 +302,12 @@ fn members_fit(scene: Scene<'_>, members: &[Init], to: Head, wholes: &Wholes<'_>
 
 /// Whether each initializer makes an object of its field.
 #[cycle(typing)]
-pub fn fields_fit(scene: Scene<'_>, members: &[Init], fields: &[FieldInfo], wholes: &Wholes<'_>) -> bool
+pub fn fields_fit(
+    scene: Scene<'_>,
+    members: &[Init],
+    fields: &[FieldInfo],
+    wholes: &Wholes<'_>,
+) -> bool
     ensures { result ≡ members_typed scene.entry.unit.now scene.entry.func.now (wholes_of wholes.now) fields.now members.now }
 {
     let mut rest = fields;
@@ -221,7 +324,12 @@ pub fn fields_fit(scene: Scene<'_>, members: &[Init], fields: &[FieldInfo], whol
 }
 
 #[cycle(typing)]
-fn handle<'a>(scene: Scene<'a>, operands: &'a [CoreExpr], op: HandleOp, wholes: &Wholes<'_>) -> Checked<'a>
+fn handle<'a>(
+    scene: Scene<'a>,
+    operands: &'a [CoreExpr],
+    op: HandleOp,
+    wholes: &Wholes<'_>,
+) -> Checked<'a>
     ensures fits { result.fits ≡ (list_all (typed scene.entry.unit.now scene.entry.func.now (wholes_of wholes.now)) operands.now && give.is_right (form.handle_gives op (map (gives scene.entry.unit.now scene.entry.func.now (wholes_of wholes.now)) operands.now))) }
     ensures view { seen result.view ≡ form.handle_gives op (map (gives scene.entry.unit.now scene.entry.func.now (wholes_of wholes.now)) operands.now) }
 {
@@ -236,7 +344,12 @@ fn handle<'a>(scene: Scene<'a>, operands: &'a [CoreExpr], op: HandleOp, wholes: 
 }
 
 #[cycle(typing)]
-fn atomic<'a>(scene: Scene<'a>, operands: &'a [CoreExpr], op: AtomicOp, wholes: &Wholes<'_>) -> Checked<'a>
+fn atomic<'a>(
+    scene: Scene<'a>,
+    operands: &'a [CoreExpr],
+    op: AtomicOp,
+    wholes: &Wholes<'_>,
+) -> Checked<'a>
     ensures fits { result.fits ≡ (list_all (typed scene.entry.unit.now scene.entry.func.now (wholes_of wholes.now)) operands.now && give.is_right (form.atomic_gives op (map (gives scene.entry.unit.now scene.entry.func.now (wholes_of wholes.now)) operands.now))) }
     ensures view { seen result.view ≡ form.atomic_gives op (map (gives scene.entry.unit.now scene.entry.func.now (wholes_of wholes.now)) operands.now) }
 {
@@ -248,20 +361,31 @@ fn atomic<'a>(scene: Scene<'a>, operands: &'a [CoreExpr], op: AtomicOp, wholes: 
         [place, value] => {
             let place = check(scene, place, wholes);
             let value = check(scene, value, wholes);
-            one(place.fits && value.fits, atomic_with(op, place.view, value.view))
+            one(
+                place.fits && value.fits,
+                atomic_with(op, place.view, value.view),
+            )
         }
         [place, expected, value] => {
             let place = check(scene, place, wholes);
             let expected = check(scene, expected, wholes);
             let value = check(scene, value, wholes);
-            one(place.fits && (expected.fits && value.fits), atomic_with_two(op, place.view, expected.view, value.view))
+            one(
+                place.fits && (expected.fits && value.fits),
+                atomic_with_two(op, place.view, expected.view, value.view),
+            )
         }
         _ => named(View::Wrong),
     }
 }
 
 #[cycle(typing)]
-fn lib<'a>(scene: Scene<'a>, operands: &'a [CoreExpr], op: LibOp, wholes: &Wholes<'_>) -> Checked<'a>
+fn lib<'a>(
+    scene: Scene<'a>,
+    operands: &'a [CoreExpr],
+    op: LibOp,
+    wholes: &Wholes<'_>,
+) -> Checked<'a>
     ensures fits { result.fits ≡ (list_all (typed scene.entry.unit.now scene.entry.func.now (wholes_of wholes.now)) operands.now && give.is_right (form.lib_gives op (map (gives scene.entry.unit.now scene.entry.func.now (wholes_of wholes.now)) operands.now))) }
     ensures view { seen result.view ≡ form.lib_gives op (map (gives scene.entry.unit.now scene.entry.func.now (wholes_of wholes.now)) operands.now) }
 {
@@ -274,7 +398,10 @@ fn lib<'a>(scene: Scene<'a>, operands: &'a [CoreExpr], op: LibOp, wholes: &Whole
         [first, second] => {
             let first = check(scene, first, wholes);
             let second = check(scene, second, wholes);
-            one(first.fits && second.fits, lib_with_two(op, first.view, second.view))
+            one(
+                first.fits && second.fits,
+                lib_with_two(op, first.view, second.view),
+            )
         }
         _ => named(View::Wrong),
     }

@@ -265,4 +265,3 @@ answer_fits answer.Handle g = is_handle_value g
 
 abbrev pub await_fits : Option SlotInfo → Bool → Answer → Gives → Gives → Gives → Bool
 await_fits holder temp a operand ready suspend = holder_fits holder temp operand && (is_number num.Bool ready && answer_fits a suspend)
-

@@ -4,7 +4,8 @@ ghost use Rattle.co_core_types.specs.Seen.{known_type, seen, seen_shape};
 
 use crate::forms::class_place;
 use crate::views::{
-    Kind, View, address_kind, is_number, is_same_kind, number, plain, plain_kind, truth, value_converts,
+    Kind, View, address_kind, is_number, is_same_kind, number, plain, plain_kind, truth,
+    value_converts,
 };
 use co_base::{AtomicKind, ClassId, Num};
 use co_core_tree::{AtomicOp, HandleOp, LibOp};
@@ -139,7 +140,8 @@ pub fn atomic_alone(op: AtomicOp, place: View<'_>) -> View<'_>
     };
     match op {
         AtomicOp::Load => View::Value(plain(kind)),
-        AtomicOp::Store | AtomicOp::Swap | AtomicOp::Add | AtomicOp::Sub | AtomicOp::Cas => View::Wrong,
+        AtomicOp::Store | AtomicOp::Swap | AtomicOp::Add | AtomicOp::Sub | AtomicOp::Cas =>
+            View::Wrong,
     }
 }
 
@@ -179,12 +181,18 @@ fn exchanges<'a>(op: AtomicOp, kind: AtomicKind, expected: View<'a>, value: View
             is_place_of_kind(plain(kind), expected) && value_converts(plain(kind), value),
             truth(),
         ),
-        AtomicOp::Load | AtomicOp::Store | AtomicOp::Swap | AtomicOp::Add | AtomicOp::Sub => View::Wrong,
+        AtomicOp::Load | AtomicOp::Store | AtomicOp::Swap | AtomicOp::Add | AtomicOp::Sub =>
+            View::Wrong,
     }
 }
 
 /// What an act on an atomic with two operands more gives.
-pub fn atomic_with_two<'a>(op: AtomicOp, place: View<'a>, expected: View<'a>, value: View<'a>) -> View<'a>
+pub fn atomic_with_two<'a>(
+    op: AtomicOp,
+    place: View<'a>,
+    expected: View<'a>,
+    value: View<'a>,
+) -> View<'a>
     ensures { seen result ≡ spec.atomic_gives op (seen place.entry ∷ seen expected.entry ∷ seen value.entry ∷ []) }
 {
     match atomic_kind(place) {
@@ -199,7 +207,8 @@ pub fn lib_alone<'a>(op: LibOp) -> View<'a>
 {
     match op {
         LibOp::Inputs => number(Num::Long),
-        LibOp::Print | LibOp::Lit | LibOp::Post | LibOp::Input | LibOp::Take | LibOp::Give => View::Wrong,
+        LibOp::Print | LibOp::Lit | LibOp::Post | LibOp::Input | LibOp::Take | LibOp::Give =>
+            View::Wrong,
     }
 }
 
@@ -227,6 +236,7 @@ pub fn lib_with_two<'a>(op: LibOp, first: View<'a>, second: View<'a>) -> View<'a
             value_converts(address_kind(), first) && is_number(Num::Size, second),
             View::Nothing,
         ),
-        LibOp::Print | LibOp::Lit | LibOp::Post | LibOp::Input | LibOp::Inputs | LibOp::Take => View::Wrong,
+        LibOp::Print | LibOp::Lit | LibOp::Post | LibOp::Input | LibOp::Inputs | LibOp::Take =>
+            View::Wrong,
     }
 }

@@ -253,7 +253,8 @@ pub fn is_testable(view: View<'_>) -> bool
 fn same_pointers(a: Kind<'_>, b: Kind<'_>) -> bool
     ensures { result ≡ spec.same_pointers (seen_shape a.entry) (seen_shape b.entry) }
 {
-    is_pointer(a.head) && (is_pointer(b.head) && (is_same_kind(a, b) || (is_address(a) || is_address(b))))
+    is_pointer(a.head)
+        && (is_pointer(b.head) && (is_same_kind(a, b) || (is_address(a) || is_address(b))))
 }
 
 fn null_beside(a: Head, b: Head) -> bool

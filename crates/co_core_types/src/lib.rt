@@ -7,12 +7,13 @@ mod objects;
 mod views;
 
 pub use calls::{
-    atomic_alone, atomic_with, atomic_with_two, handle_alone, handle_with, is_handle_value, lib_alone,
-    lib_with, lib_with_two,
+    atomic_alone, atomic_with, atomic_with_two, handle_alone, handle_with, is_handle_value,
+    lib_alone, lib_with, lib_with_two,
 };
 pub use forms::{
-    are_truths, arith_fits, arith_gives, class_place, is_some_number_type, is_testable, joined, loaded,
-    pick_fits, pointer_to, referent, result_gives, same_fits, store_fits, update_fits, updated,
+    are_truths, arith_fits, arith_gives, class_place, is_some_number_type, is_testable, joined,
+    loaded, pick_fits, pointer_to, referent, result_gives, same_fits, store_fits, update_fits,
+    updated,
 };
 pub use objects::{
     await_fits, choose_fits, delete_fits, is_object, is_raw, result_fits, value_fits,

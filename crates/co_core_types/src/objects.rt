@@ -8,8 +8,8 @@ ghost use Rattle.co_core_types.specs.Seen.{known_type, seen, seen_shape};
 use crate::calls::is_handle_value;
 use crate::forms::is_some_number_type;
 use crate::views::{
-    Known, View, is_number, is_place_of, is_place_of_target, is_reference, is_same_head, is_same_kind,
-    plain, pointer_kind, value_converts,
+    Known, View, is_number, is_place_of, is_place_of_target, is_reference, is_same_head,
+    is_same_kind, plain, pointer_kind, value_converts,
 };
 use co_base::{ClassId, Num, SlotId};
 use co_core_tree::{Answer, CoreExpr, SlotInfo, SlotKind};
@@ -109,7 +109,8 @@ fn holds(kind: SlotKind, of: &CoType, temp: bool, operand: View<'_>) -> bool
     match kind {
         SlotKind::Temp => temp,
         SlotKind::Held => holds_reference(of, operand),
-        SlotKind::Param | SlotKind::Copy | SlotKind::Promise | SlotKind::Local | SlotKind::Mark => false,
+        SlotKind::Param | SlotKind::Copy | SlotKind::Promise | SlotKind::Local | SlotKind::Mark =>
+            false,
     }
 }
 
@@ -139,8 +140,16 @@ fn answer_fits(answer: Answer, view: View<'_>) -> bool
 }
 
 /// Whether the parts of an await fit [expr.await].
-pub fn await_fits(holder: Option<&SlotInfo>, temp: bool, answer: Answer, operand: View<'_>, ready: View<'_>, suspend: View<'_>) -> bool
+pub fn await_fits(
+    holder: Option<&SlotInfo>,
+    temp: bool,
+    answer: Answer,
+    operand: View<'_>,
+    ready: View<'_>,
+    suspend: View<'_>,
+) -> bool
     ensures { result ≡ spec.await_fits (option_copied holder.entry) temp answer (seen operand.entry) (seen ready.entry) (seen suspend.entry) }
 {
-    holder_fits(holder, temp, operand) && (is_number(Num::Bool, ready) && answer_fits(answer, suspend))
+    holder_fits(holder, temp, operand)
+        && (is_number(Num::Bool, ready) && answer_fits(answer, suspend))
 }

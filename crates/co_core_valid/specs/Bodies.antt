@@ -1,8 +1,7 @@
 -- The statements of a function with where each stands, and the full-expressions of a function in the order of the text.
-use Rattle.std.specs.Prelude.{ℕ, Bool, true, false, List, [], ◌∷◌, ◌++◌, Option, None, Some}
+use Rattle.std.specs.Prelude.{Bool, true, false, List, [], ◌∷◌, ◌++◌, Option, None, Some}
 use Rattle.co_core_tree.specs.declared.stmts.CoreStmt.{CoreStmt, Row_of-CoreStmt, end_of-CoreStmt, more_of-CoreStmt, Row_of-Handler, end_of-Handler, more_of-Handler}
 use Rattle.co_core_tree.specs.declared.stmts.CoreStmt.TheVariants as stmt
-use Rattle.co_core_tree.specs.declared.exprs.CoreExpr.{CoreExpr}
 use Rattle.co_core_tree.specs.declared.exprs.Init.{Init}
 use Rattle.co_core_tree.specs.declared.exprs.AwaitPlan.{AwaitPlan}
 use Rattle.co_core_tree.specs.declared.units.CoreFunc.{CoreFunc}

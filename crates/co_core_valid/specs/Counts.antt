@@ -1,5 +1,5 @@
 -- Marks and kept values have slots of their own, and nothing is too large.
-use Rattle.std.specs.Prelude.{ℕ, zero, suc, ◌+◌, Bool, true, false, not, ◌||◌, ◌&&◌, nat_le, List, [], ◌∷◌, ◌++◌, length, Option, None, Some, slice_get}
+use Rattle.std.specs.Prelude.{ℕ, zero, suc, ◌+◌, Bool, true, false, not, ◌&&◌, nat_le, List, [], ◌∷◌, ◌++◌, length, Option, None, Some, slice_get}
 use Rattle.std.specs.List.{list_all}
 use Rattle.co_base.specs.declared.ids.ClassId.{ClassId}
 use Rattle.co_base.specs.declared.ids.SlotId.{SlotId}
@@ -11,7 +11,6 @@ use Rattle.co_types.specs.declared.classes.FieldInfo.{FieldInfo}
 use Rattle.co_types.specs.Types.{head_of, target_of, same_head}
 use Rattle.co_core_tree.specs.declared.exprs.CoreExpr.{CoreExpr, end_of-AwaitPlan, more_of-AwaitPlan}
 use Rattle.co_core_tree.specs.declared.exprs.CoreExpr.TheVariants as expr
-use Rattle.co_core_tree.specs.declared.exprs.Init.{Init}
 use Rattle.co_core_tree.specs.declared.exprs.Init.TheVariants as init
 use Rattle.co_core_tree.specs.declared.units.SlotInfo.{SlotInfo}
 use Rattle.co_core_tree.specs.declared.units.PromisePlan.{PromisePlan}
@@ -19,10 +18,10 @@ use Rattle.co_core_tree.specs.declared.units.CoreFunc.{CoreFunc}
 use Rattle.co_core_tree.specs.declared.units.UnitParts.{UnitParts}
 use Rattle.co_core_tree.specs.Acts.{Part, OfExpr, OfInit, Act, Does, Passes, Starts, Keeps}
 use Rattle.co_core_tree.specs.Sizes.{class_words}
-use Rattle.co_core_tree.specs.Slots.{Temporary, held_of, holds_class, is_held_kind, made, slot_at, temporaries}
-use Rattle.co_core_types.specs.Gives.{Gives, Place, Value, Nothing, Throws, Wrong, same_shape, same_target, shape_of}
+use Rattle.co_core_tree.specs.Slots.{Temporary, held_of, holds_class, is_held_kind, slot_at, temporaries}
+use Rattle.co_core_types.specs.Gives.{Gives, Place, Value, same_shape, same_target, shape_of}
 use Rattle.co_core_typed.specs.Rules.{gives}
-use Rattle.co_core_valid.specs.Bodies.{body_of, evaluated, fulls, func_acts, joined_acts, plan_fulls, role_fulls}
+use Rattle.co_core_valid.specs.Bodies.{body_of, evaluated, func_acts, joined_acts, plan_fulls, role_fulls}
 use Rattle.co_core_valid.specs.Jumps.{func_points}
 use Rattle.co_core_valid.specs.Plans.{count_kind}
 use Rattle.co_core_valid.specs.Scopes.{holder_of, is_mark, member}

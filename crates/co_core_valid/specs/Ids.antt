@@ -1,9 +1,8 @@
 -- Each number that a unit names is in its table.
-use Rattle.std.specs.Prelude.{ℕ, Bool, true, false, ◌&&◌, nat_lt, if◌then◌else◌, List, [], ◌∷◌, length, Option, None, Some, ℤ, pos, negsuc}
+use Rattle.std.specs.Prelude.{Bool, true, false, ◌&&◌, nat_lt, length, Option, None, Some, ℤ, pos, negsuc}
 use Rattle.std.specs.List.{list_all}
 use Rattle.co_base.specs.declared.kinds.CatchOf.{CatchOf}
 use Rattle.co_base.specs.declared.kinds.CatchOf.TheVariants as catch
-use Rattle.co_base.specs.declared.kinds.Num.TheVariants as num
 use Rattle.co_base.specs.declared.ids.ClassId.{ClassId}
 use Rattle.co_base.specs.declared.ids.FuncId.{FuncId}
 use Rattle.co_base.specs.declared.ids.SlotId.{SlotId}

@@ -1,16 +1,14 @@
 -- Where statements and awaits may stand, and their suspension points.
-use Rattle.std.specs.Prelude.{ℕ, Bool, true, false, not, ◌||◌, ◌&&◌, ◌==◌, List, [], ◌∷◌, ◌++◌, Option, None, Some, is_some}
+use Rattle.std.specs.Prelude.{Bool, true, not, ◌||◌, ◌&&◌, ◌==◌, List, [], ◌∷◌, ◌++◌, Option, None, Some, is_some}
 use Rattle.std.specs.List.{list_all, list_any}
 use Rattle.co_base.specs.declared.ids.SuspendId.{SuspendId}
 use Rattle.co_core_tree.specs.declared.stmts.CoreStmt.{CoreStmt}
 use Rattle.co_core_tree.specs.declared.stmts.CoreStmt.TheVariants as stmt
-use Rattle.co_core_tree.specs.declared.exprs.CoreExpr.{CoreExpr, more_of-NewPlan, end_of-NewPlan}
-use Rattle.co_core_tree.specs.declared.exprs.CoreExpr.TheVariants as expr
 use Rattle.co_core_tree.specs.declared.units.PromisePlan.{PromisePlan}
 use Rattle.co_core_tree.specs.declared.units.CoreFunc.{CoreFunc}
 use Rattle.co_core_tree.specs.declared.units.UnitParts.{UnitParts}
-use Rattle.co_core_tree.specs.Acts.{Act, Does, Passes, Starts, Keeps, suspends}
-use Rattle.co_core_tree.specs.Slots.{init_acts_of, points}
+use Rattle.co_core_tree.specs.Acts.{suspends}
+use Rattle.co_core_tree.specs.Slots.{points}
 use Rattle.co_core_valid.specs.Bodies.{Placed, Standing, body_of, func_acts, joined_acts, own_fulls}
 
 -- ---- jumps

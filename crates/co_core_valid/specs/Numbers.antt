@@ -1,5 +1,5 @@
 -- Each number of a unit is a value of its type.
-use Rattle.std.specs.Prelude.{ℕ, Bool, true, false, not, ◌&&◌, List, Option, None, Some, ℤ, pos, negsuc}
+use Rattle.std.specs.Prelude.{Bool, true, not, ◌&&◌, List, ℤ, pos}
 use Rattle.std.specs.List.{list_all}
 use Rattle.std.specs.Ordering.{int_eq}
 use Rattle.co_base.specs.declared.kinds.Num.{Num}

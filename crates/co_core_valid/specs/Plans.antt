@@ -1,6 +1,6 @@
 -- The parameters of functions, and the functions that plans name.
-use Rattle.std.specs.Prelude.{ℕ, Bool, true, false, not, ◌||◌, ◌&&◌, ◌==◌, ◌+◌, List, [], ◌∷◌, ◌++◌, length, Option, None, Some, slice_get, is_some}
-use Rattle.std.specs.List.{list_all, list_any}
+use Rattle.std.specs.Prelude.{ℕ, Bool, true, false, not, ◌||◌, ◌&&◌, ◌==◌, ◌+◌, List, [], ◌∷◌, length, Option, None, Some, slice_get, is_some}
+use Rattle.std.specs.List.{list_all}
 use Rattle.co_base.specs.declared.kinds.Num.TheVariants as num
 use Rattle.co_base.specs.declared.ids.ClassId.{ClassId}
 use Rattle.co_base.specs.declared.ids.FuncId.{FuncId}
@@ -19,7 +19,7 @@ use Rattle.co_core_tree.specs.declared.kinds.GivePlan.TheVariants as give
 use Rattle.co_core_tree.specs.declared.kinds.HandleOp.TheVariants as handle
 use Rattle.co_core_tree.specs.declared.kinds.Returns.{Returns}
 use Rattle.co_core_tree.specs.declared.kinds.Returns.TheVariants as returns
-use Rattle.co_core_tree.specs.declared.exprs.CoreExpr.{CoreExpr, end_of-AwaitPlan, more_of-AwaitPlan, end_of-NewPlan, more_of-NewPlan, end_of-DeletePlan, more_of-DeletePlan}
+use Rattle.co_core_tree.specs.declared.exprs.CoreExpr.{CoreExpr, end_of-NewPlan, more_of-NewPlan, end_of-DeletePlan, more_of-DeletePlan}
 use Rattle.co_core_tree.specs.declared.exprs.CoreExpr.TheVariants as expr
 use Rattle.co_core_tree.specs.declared.exprs.Init.{Init}
 use Rattle.co_core_tree.specs.declared.exprs.Init.TheVariants as init
@@ -32,7 +32,7 @@ use Rattle.co_core_tree.specs.declared.units.CoreFunc.{CoreFunc}
 use Rattle.co_core_tree.specs.declared.units.UnitParts.{UnitParts}
 use Rattle.co_core_tree.specs.Acts.{Act, Does, Passes, Starts, Keeps, suspends}
 use Rattle.co_core_tree.specs.Sizes.{dtor_of}
-use Rattle.co_core_tree.specs.Slots.{acts_of, init_acts_of, slot_at}
+use Rattle.co_core_tree.specs.Slots.{init_acts_of, slot_at}
 use Rattle.co_core_types.specs.Gives.{is_void}
 use Rattle.co_core_typed.specs.Tables.{after_first, is_class_target, is_plain, param_types_of, slot_type}
 use Rattle.co_core_valid.specs.Bodies.{await_acts, body_of, func_acts, joined_acts, placed_fulls}

@@ -1,5 +1,5 @@
 -- Where slots may be named and made.
-use Rattle.std.specs.Prelude.{ℕ, Bool, true, false, not, ◌||◌, ◌&&◌, ◌==◌, List, [], ◌∷◌, ◌++◌, Option, None, Some, is_some}
+use Rattle.std.specs.Prelude.{Bool, true, false, not, ◌||◌, ◌&&◌, ◌==◌, List, [], ◌∷◌, ◌++◌, Option, None, Some}
 use Rattle.std.specs.List.{list_all, list_any}
 use Rattle.co_base.specs.declared.ids.SlotId.{SlotId}
 use Rattle.co_core_tree.specs.declared.kinds.SlotKind.{SlotKind}
@@ -15,8 +15,8 @@ use Rattle.co_core_tree.specs.declared.units.PromisePlan.{PromisePlan}
 use Rattle.co_core_tree.specs.declared.units.CoreFunc.{CoreFunc}
 use Rattle.co_core_tree.specs.declared.units.UnitParts.{UnitParts}
 use Rattle.co_core_tree.specs.Acts.{Act, Does, Passes, Starts, Keeps}
-use Rattle.co_core_tree.specs.Slots.{acts_of, init_acts_of, is_held, made, makes, slot_at}
-use Rattle.co_core_valid.specs.Bodies.{Placed, body_of, fulls, func_acts, plan_fulls, role_fulls}
+use Rattle.co_core_tree.specs.Slots.{acts_of, init_acts_of, is_held, makes, slot_at}
+use Rattle.co_core_valid.specs.Bodies.{Placed, body_of, func_acts, plan_fulls, role_fulls}
 
 -- ---- kinds
 

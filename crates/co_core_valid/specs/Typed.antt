@@ -1,16 +1,13 @@
 -- Each part of a statement, a function and a plan has the type that it needs.
-use Rattle.std.specs.Prelude.{ℕ, Bool, true, false, not, ◌||◌, ◌&&◌, ◌==◌, List, [], ◌∷◌, Option, None, Some, slice_get, is_some}
+use Rattle.std.specs.Prelude.{Bool, true, false, not, ◌||◌, ◌&&◌, ◌==◌, List, [], ◌∷◌, Option, None, Some, slice_get, is_some}
 use Rattle.std.specs.List.{list_all}
 use Rattle.co_base.specs.declared.kinds.CatchOf.{CatchOf}
 use Rattle.co_base.specs.declared.kinds.CatchOf.TheVariants as catch
 use Rattle.co_base.specs.declared.kinds.Num.TheVariants as num
 use Rattle.co_base.specs.declared.ids.ClassId.{ClassId}
-use Rattle.co_base.specs.declared.ids.FuncId.{FuncId}
 use Rattle.co_base.specs.declared.ids.SlotId.{SlotId}
-use Rattle.co_types.specs.declared.types.CoType.{CoType}
 use Rattle.co_types.specs.declared.types.Head.{Head}
 use Rattle.co_types.specs.declared.types.Head.TheVariants as head
-use Rattle.co_types.specs.declared.classes.FieldInfo.{FieldInfo}
 use Rattle.co_types.specs.Types.{head_of, target_of, same_head}
 use Rattle.co_core_tree.specs.declared.kinds.SlotKind.{SlotKind}
 use Rattle.co_core_tree.specs.declared.kinds.SlotKind.TheVariants as kind
@@ -18,7 +15,6 @@ use Rattle.co_core_tree.specs.declared.stmts.CoreStmt.{CoreStmt, Row_of-Handler,
 use Rattle.co_core_tree.specs.declared.stmts.CoreStmt.TheVariants as stmt
 use Rattle.co_core_tree.specs.declared.exprs.CoreExpr.{CoreExpr}
 use Rattle.co_core_tree.specs.declared.exprs.Init.{Init}
-use Rattle.co_core_tree.specs.declared.exprs.AwaitPlan.{AwaitPlan}
 use Rattle.co_core_tree.specs.declared.units.SlotInfo.{SlotInfo}
 use Rattle.co_core_tree.specs.declared.units.GlobalInfo.{GlobalInfo}
 use Rattle.co_core_tree.specs.declared.units.FuncRole.{FuncRole}
@@ -27,10 +23,9 @@ use Rattle.co_core_tree.specs.declared.units.CopyPlan.{CopyPlan}
 use Rattle.co_core_tree.specs.declared.units.PromisePlan.{PromisePlan}
 use Rattle.co_core_tree.specs.declared.units.CoreFunc.{CoreFunc}
 use Rattle.co_core_tree.specs.declared.units.UnitParts.{UnitParts}
-use Rattle.co_core_tree.specs.Slots.{slot_at}
 use Rattle.co_core_types.specs.Gives.{is_number, is_reference, is_void, is_scalar}
-use Rattle.co_core_types.specs.Forms.{await_fits, is_object, makes_temp}
-use Rattle.co_core_typed.specs.Tables.{after_first, is_class_target, is_thrown_class, param_types, param_types_of, slot_type}
+use Rattle.co_core_types.specs.Forms.{is_object}
+use Rattle.co_core_typed.specs.Tables.{is_class_target, is_thrown_class, slot_type}
 use Rattle.co_core_typed.specs.Rules.{await_typed, fields_of, gives, init_typed, members_typed, typed}
 use Rattle.co_core_valid.specs.Bodies.{Placed, body_of}
 
