@@ -14,8 +14,16 @@ pub struct Unit {
 impl Model for Unit {
     ghost use Rattle.co_core_tree.specs.declared.units.UnitParts.{UnitParts};
     ghost use Rattle.co_core_valid.specs.Valid.{IsValid};
+    ghost use Rattle.co_types.specs.contracts.types.CoType as of_type;
+    ghost use Rattle.co_core_tree.specs.contracts.exprs.AwaitPlan as of_await;
+    ghost use Rattle.co_core_tree.specs.contracts.exprs.CoreExpr as of_expr;
+    ghost use Rattle.co_core_tree.specs.contracts.exprs.Init as of_init;
+    ghost use Rattle.co_core_tree.specs.contracts.stmts.CoreStmt as of_stmt;
+    ghost use Rattle.std.specs.Coded.{codes};
 
     ghost Value = { UnitParts };
+
+    ghost coded = { Prim.hlevel (codes, of_type.the_row.coded, of_await.the_row.coded, of_expr.the_row.coded, of_init.the_row.coded, of_stmt.the_row.coded) };
 
     ghost view = { λ u. u.parts };
 

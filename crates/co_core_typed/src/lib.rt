@@ -3,6 +3,8 @@
 
 mod checked;
 mod tables;
+#[cfg(test)]
+mod tests;
 mod walk;
 mod wholes;
 

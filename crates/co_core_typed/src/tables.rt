@@ -9,7 +9,7 @@ ghost use Rattle.co_core_types.specs.Seen.{known_type, seen};
 ghost use Rattle.co_core_typed.specs.Tables as spec;
 
 use co_base::{ClassId, FuncId, Num, SlotId};
-use co_core_tree::{CoreFunc, FuncRole, GlobalInfo, SlotInfo, UnitParts};
+use co_core_tree::{CoreFunc, FuncRole, GlobalInfo, SlotInfo};
 use co_core_types::{
     Known, View, is_number, is_place_of, is_reference, is_same_head, is_some_number_type,
     result_gives,

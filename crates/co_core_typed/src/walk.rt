@@ -1,8 +1,7 @@
-ghost use Rattle.std.specs.Prelude.{◌≡◌, ◌&&◌, false, slice_get, map};
+ghost use Rattle.std.specs.Prelude.{◌≡◌, ◌&&◌, false, map};
 ghost use Rattle.std.specs.Option.{option_copied};
 ghost use Rattle.std.specs.List.{list_all};
 ghost use Rattle.co_types.specs.Types.{head_of};
-ghost use Rattle.co_core_tree.specs.Slots.{slot_at};
 ghost use Rattle.co_core_types.specs.Forms as form;
 ghost use Rattle.co_core_types.specs.Gives as give;
 ghost use Rattle.co_core_types.specs.Seen.{known_type, seen};

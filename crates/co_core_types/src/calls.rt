@@ -1,6 +1,6 @@
 ghost use Rattle.std.specs.Prelude.{◌≡◌, [], ◌∷◌};
 ghost use Rattle.co_core_types.specs.Forms as spec;
-ghost use Rattle.co_core_types.specs.Seen.{known_type, seen, seen_shape};
+ghost use Rattle.co_core_types.specs.Seen.{seen, seen_shape};
 
 use crate::forms::class_place;
 use crate::views::{

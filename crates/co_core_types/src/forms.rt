@@ -1,18 +1,16 @@
 ghost use Rattle.std.specs.Prelude.{◌≡◌};
-ghost use Rattle.std.specs.Option.{option_copied, option_map};
+ghost use Rattle.std.specs.Option.{option_map};
 ghost use Rattle.co_core_types.specs.Gives as give;
 ghost use Rattle.co_core_types.specs.Forms as spec;
 ghost use Rattle.co_core_types.specs.Seen.{known_type, seen, seen_shape};
 
 use crate::views::{
     Kind, Known, View, converts, is_address, is_assignable, is_handle, is_null, is_nullable,
-    is_number, is_place_of, is_pointer, is_reference, is_right, is_same_kind, is_same_known,
-    is_scalar, is_some_number, is_some_number_head, is_void, number, plain_kind, pointer_kind,
-    truth, value_converts,
+    is_number, is_pointer, is_reference, is_right, is_same_kind, is_same_known, is_scalar,
+    is_some_number, is_void, number, pointer_kind, truth, value_converts,
 };
 use co_base::{ClassId, Num, Op};
-use co_types::{ClassTable, CoType, FieldInfo, Head};
-use sqlite_items::at;
+use co_types::{CoType, Head};
 
 fn is_shift(op: Op) -> bool
     ensures { result ≡ give.is_shift op }

@@ -1,19 +1,16 @@
 ghost use Rattle.std.specs.Prelude.{◌≡◌};
-ghost use Rattle.std.specs.Option.{option_copied, option_map};
-ghost use Rattle.std.specs.List.{list_all, list_any};
+ghost use Rattle.std.specs.Option.{option_copied};
 ghost use Rattle.co_core_types.specs.Forms as spec;
-ghost use Rattle.co_core_types.specs.Gives as give;
-ghost use Rattle.co_core_types.specs.Seen.{known_type, seen, seen_shape};
+ghost use Rattle.co_core_types.specs.Seen.{known_type, seen};
 
 use crate::calls::is_handle_value;
-use crate::forms::is_some_number_type;
 use crate::views::{
     Known, View, is_number, is_place_of, is_place_of_target, is_reference, is_same_head,
     is_same_kind, plain, pointer_kind, value_converts,
 };
-use co_base::{ClassId, Num, SlotId};
-use co_core_tree::{Answer, CoreExpr, SlotInfo, SlotKind};
-use co_types::{ClassInfo, CoType, FieldInfo, FuncInfo, Head};
+use co_base::Num;
+use co_core_tree::{Answer, SlotInfo, SlotKind};
+use co_types::{CoType, Head};
 
 /// Whether a type has objects.
 pub fn is_object(head: Head) -> bool

@@ -1,5 +1,5 @@
-ghost use Rattle.std.specs.Prelude.{◌≡◌, ◌<◌, ◌^◌};
-ghost use Rattle.std.specs.Option.{option_copied, option_map};
+ghost use Rattle.std.specs.Prelude.{◌≡◌, ◌<◌};
+ghost use Rattle.std.specs.Option.{option_map};
 ghost use Rattle.co_types.specs.Types.{head_of, target_of, same_atomic, same_head, same_num, same_type};
 ghost use Rattle.co_core_types.specs.Gives as spec;
 ghost use Rattle.co_core_types.specs.Seen.{known_type, seen, seen_shape};

@@ -35,7 +35,7 @@ use Rattle.co_core_tree.specs.Sizes.{dtor_of}
 use Rattle.co_core_tree.specs.Slots.{init_acts_of, slot_at}
 use Rattle.co_core_types.specs.Gives.{is_void}
 use Rattle.co_core_typed.specs.Tables.{after_first, is_class_target, is_plain, param_types_of, slot_type}
-use Rattle.co_core_valid.specs.Bodies.{await_acts, body_of, func_acts, joined_acts, placed_fulls}
+use Rattle.co_core_valid.specs.Bodies.{await_acts, body_of, func_acts, inits_fulls, joined_acts, placed_fulls}
 use Rattle.co_core_valid.specs.Scopes.{distinct, is_copy, is_param, is_promise, slot_is}
 use Rattle.co_core_typed.specs.Rules.{arguments_typed}
 use Rattle.co_core_valid.specs.Typed.{is_class_head}
@@ -85,15 +85,15 @@ module _ (func : CoreFunc) where
 
 module _ (funcs : List CoreFunc) (func : CoreFunc) where
   -- Without a plan there is no promise and no copy. With one there is one promise, of the plan's class, and one copy of each
-  -- parameter; the body and the initial and the final await name the copies in place of the parameters
+  -- parameter; the promise's constructor, the body and the initial and the final await name the copies in place of the parameters
   -- [dcl.fct.def.coroutine].
   abbrev pub plan_params : Option PromisePlan → Bool
   plan_params None = (count_kind is_promise func.slots == 0) && (count_kind is_copy func.slots == 0)
   plan_params (Some plan) =
       (count_kind is_promise func.slots == 1) && (has_promise func plan.promise func.slots && (copies_params func func.params plan.copies &&
       (distinct (copies_to func plan.copies) && ((length plan.copies == count_kind is_copy func.slots) &&
-      (list_all (act_names_no_param func) (await_acts funcs plan.initial) && (list_all (act_names_no_param func) (await_acts funcs plan.last) &&
-      list_all (act_names_no_param func) (joined_acts funcs (placed_fulls funcs (body_of func)))))))))
+      (list_all (act_names_no_param func) (joined_acts funcs (inits_fulls funcs plan.ctor_args)) && (list_all (act_names_no_param func) (await_acts funcs plan.initial) && (list_all (act_names_no_param func) (await_acts funcs plan.last) &&
+      list_all (act_names_no_param func) (joined_acts funcs (placed_fulls funcs (body_of func))))))))))
 
   abbrev pub func_params : Bool
   func_params = lists_params func && plan_params func.plan

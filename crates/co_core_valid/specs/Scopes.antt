@@ -16,7 +16,7 @@ use Rattle.co_core_tree.specs.declared.units.CoreFunc.{CoreFunc}
 use Rattle.co_core_tree.specs.declared.units.UnitParts.{UnitParts}
 use Rattle.co_core_tree.specs.Acts.{Act, Does, Passes, Starts, Keeps}
 use Rattle.co_core_tree.specs.Slots.{acts_of, init_acts_of, is_held, makes, slot_at}
-use Rattle.co_core_valid.specs.Bodies.{Placed, body_of, func_acts, plan_fulls, role_fulls}
+use Rattle.co_core_valid.specs.Bodies.{Placed, await_acts, body_of, copies_fulls, inits_fulls, func_acts, role_fulls}
 
 -- ---- kinds
 
@@ -79,6 +79,14 @@ module _ (func : CoreFunc) where
   abbrev pub full_visible : List SlotId → List Act → Bool
   full_visible seen acts = list_all (act_visible (makes func acts ++ seen)) acts
 
+-- the slot of an initial or final awaiter that is no temporary
+abbrev pub holder_of : CoreFunc → AwaitPlan → List SlotId
+holder_of func plan = if_held (is_held (slot_at func plan.holder)) plan.holder
+  where
+    if_held : Bool → SlotId → List SlotId
+    if_held true slot = slot ∷ []
+    if_held false slot = []
+
 -- what is visible after a statement of a list: a declaration adds its local [basic.scope.block]
 abbrev pub declared : List SlotId → CoreStmt → List SlotId
 declared seen (stmt.Local slot i at) = slot ∷ seen
@@ -116,22 +124,27 @@ module _ (funcs : List CoreFunc) (func : CoreFunc) where
     handlers_visible seen end_of-Handler = true
     handlers_visible seen (more_of-Handler of slot body rest) = stmt_visible (with_variable slot seen) body && handlers_visible seen rest
 
+  abbrev pub inits_visible : List (List Act) → Bool
+  inits_visible acts = list_all (full_visible func []) acts
+
+  -- an initial or final await names its own awaiter
+  abbrev pub await_visible : AwaitPlan → Bool
+  await_visible plan = full_visible func (holder_of func plan) (await_acts funcs plan)
+
+  abbrev pub plan_visible : Option PromisePlan → Bool
+  plan_visible None = true
+  plan_visible (Some plan) =
+      inits_visible (inits_fulls funcs plan.take_args) && (inits_visible (copies_fulls funcs plan.copies) && (inits_visible (inits_fulls funcs plan.ctor_args) &&
+      (await_visible plan.initial && await_visible plan.last)))
+
   abbrev pub func_visible : Bool
-  func_visible = list_all (full_visible func []) (role_fulls funcs func.role) && (list_all (full_visible func []) (plan_fulls funcs func.plan) && stmt_visible [] func.body)
+  func_visible = inits_visible (role_fulls funcs func.role) && (plan_visible func.plan && stmt_visible [] func.body)
 
 -- A slot is named only in its function, scope, full-expression or handler.
 abbrev pub all_visible : UnitParts → Bool
 all_visible unit = list_all (func_visible unit.funcs) unit.funcs
 
 -- ---- what is made
-
--- the slot of an initial or final awaiter that is no temporary
-abbrev pub holder_of : CoreFunc → AwaitPlan → List SlotId
-holder_of func plan = if_held (is_held (slot_at func plan.holder)) plan.holder
-  where
-    if_held : Bool → SlotId → List SlotId
-    if_held true slot = slot ∷ []
-    if_held false slot = []
 
 abbrev pub copies_make : List CopyPlan → List SlotId
 copies_make [] = []
