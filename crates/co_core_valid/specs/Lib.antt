@@ -7,3 +7,4 @@ pub mod Jumps
 pub mod Plans
 pub mod Counts
 pub mod Valid
+pub mod Laws

@@ -3,4 +3,4 @@
 
 mod laws;
 
-pub use laws::holds_is_valid;
+pub use laws::{holds_is_valid, keeps_for_awaits_alone};
