@@ -1,0 +1,10 @@
+pub mod Bodies
+pub mod Ids
+pub mod Typed
+pub mod Numbers
+pub mod Scopes
+pub mod Jumps
+pub mod Plans
+pub mod Counts
+pub mod Valid
+pub mod Laws
