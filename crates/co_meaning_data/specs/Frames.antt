@@ -137,6 +137,7 @@ pub data Frame : Type 0 where
   ValueInto : (place : Place) (at : Span) → Frame
   ResultInto : Frame
   ChooseOne : (x y : Init) (place : Option Place) → Frame
+  FieldMade : Frame  -- awaits the initialization of a field of the object of the next frame
   Building : (place : Place) (built : ℕ) (rest : List Init) → Frame  -- the fields below number `built` are made
   Constructing : (place : Place) (class : ClassId) (built : ℕ) (rest : List Init) (body : List CoreStmt) → Frame
   -- the ends of objects [class.dtor]
@@ -165,6 +166,7 @@ pub data Frame : Type 0 where
   RampTaken : Frame
   RampCopies : (rest : List CopyPlan) → Frame
   RampMade : (x : ℕ) → Frame  -- a parameter copy or the promise is being made
+  RampResult : Frame  -- the result follows the promise
   RampBody : Frame  -- awaits the call that makes the result
   RampDone : Frame  -- awaits the return of the body
   NullDone : Frame  -- awaits what the call gives where there is no storage
@@ -186,7 +188,6 @@ pub data Doing : Type 0 where
   Reads : (place : Place) (left : ℕ) (done : List Value) (at : Span) → Doing
   Writes : (initial : Bool) (place : Place) (done : ℕ) (left : List Value) (outcome : Outcome) (at : Span) → Doing
   Comes : (outcome : Outcome) → Doing
-  Lives : (x : ℕ) (outcome : Outcome) → Doing  -- the object becomes live
   IsBorn : (x : ℕ) (outcome : Outcome) → Doing  -- the event of its birth
   Dies : (x : ℕ) → Doing  -- the object ends, after its destructor
   HasDied : (x : ℕ) → Doing  -- the event of its death

@@ -1,0 +1,4 @@
+pub mod Turn
+pub mod Access
+pub mod Objects
+pub mod Calls
