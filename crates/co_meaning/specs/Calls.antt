@@ -20,7 +20,7 @@ use Rattle.co_meaning_data.specs.declared.values.Cell.{Cell}
 use Rattle.co_meaning_data.specs.declared.values.Cell.TheVariants as cell
 use Rattle.co_meaning_data.specs.declared.values.Value.{Value}
 use Rattle.co_meaning_data.specs.declared.values.Value.TheVariants as value
-use Rattle.co_meaning_data.specs.Frames.{Activation, ArgumentMade, At, Border, Breaking, Building, Call, Called, Calling, Comes, Constructing, Continuing, Destroying, Doing, Execute, FieldMade, Frame, Full, Function, Given, Gives, Goes, Going, Idle, Initialize, Kind, Leaving, Nothing, OfBody, OfDestroy, OfFunction, OfParked, OfRamp, Opens, Outcome, Parts, Passes, RampTake, Returning, Scalar, Temporal, Throwing}
+use Rattle.co_meaning_data.specs.Frames.{Activation, ArgumentMade, At, Border, Breaking, Building, Call, Called, Calling, Comes, Constructing, Continuing, Doing, Execute, FieldMade, FieldsEnd, Frame, Full, Function, Given, Gives, Goes, Going, Idle, Initialize, Kind, Leaving, Nothing, OfBody, OfDestroy, OfFunction, OfParked, OfRamp, Opens, Outcome, Parts, Passes, RampTake, Returning, Scalar, Temporal, Throwing}
 use Rattle.co_meaning_data.specs.Store.{Place, Store, add_object, field_of_place, live_object, next_object, whole}
 use Rattle.co_meaning.specs.Objects.{endings, ends, fields_end, lives, slot_type_in, type_of_slot, with_raw}
 use Rattle.co_meaning.specs.Turn.{Local, Turned, classes, func_of, funcs, gives, goes, is_uncaught, leaves, parts_for, passes, pushed, rests, store, under, with_frames, with_slot, with_store}
@@ -42,13 +42,13 @@ abbrev pub mark_count : List Temporal → ℕ
 mark_count [] = zero
 mark_count (t ∷ ts) = if t.marked then suc (mark_count ts) else mark_count ts
 
-abbrev pub opens_with : List Temporal → Doing → Local → Option Turned
-opens_with ts d l = under (Full ts) (Opens (mark_count ts) d) l
+abbrev pub opens_with : List Temporal → List Frame → Doing → Local → Option Turned
+opens_with ts inner d l = goes (Opens (mark_count ts) d) (with_frames (inner ++ Full ts ∷ l.top.frames) l)
 
--- A full-expression with these acts is opened: none of its temporaries is made, and its marks are made unset, one in a step. A
--- temporary of a conditional operand has a mark where it is of a class.
-abbrev pub opens : List Act → Doing → Local → Option Turned
-opens list d l = opens_with (unmade_all (func_of l) (temporaries list)) d l
+-- A full-expression with these acts and these frames in it is opened: none of its temporaries is made, and its marks are made
+-- unset, one in a step. A temporary of a conditional operand has a mark where it is of a class.
+abbrev pub opens : List Act → List Frame → Doing → Local → Option Turned
+opens list inner d l = opens_with (unmade_all (func_of l) (temporaries list)) inner d l
 
 abbrev pub open_step : ℕ → Doing → Local → Option Turned
 open_step zero d l = goes d l
@@ -161,7 +161,7 @@ this_of given = None
 
 abbrev pub member_frames : Option Place → FuncRole → CoreStmt → List Frame
 member_frames (Some p) (role.Ctor class members) body = Constructing p class zero members (body ∷ []) ∷ []
-member_frames (Some p) (role.Dtor class) body = Destroying p class ∷ []
+member_frames (Some p) (role.Dtor class) body = FieldsEnd p class ∷ []
 member_frames this r body = []
 
 -- a constructor makes the members before its body
@@ -203,7 +203,7 @@ enter call l = enter_in call l (slice_get (funcs l) call.func.0)
 
 abbrev pub next_member : Place → ClassId → ℕ → List Init → List CoreStmt → Local → Option Turned
 next_member p class built (i ∷ rest) body l =
-    opens (init_acts (class_params (funcs l)) false false i) (Initialize i (Some (field_of_place p built))) (pushed FieldMade (pushed (Constructing p class built rest body) l))
+    opens (init_acts (class_params (funcs l)) false false i) (FieldMade ∷ []) (Initialize i (Some (field_of_place p built))) (pushed (Constructing p class built rest body) l)
 next_member p class built [] (s ∷ body) l = under (Constructing p class built [] body) (Execute s) l
 next_member p class built [] [] l = passes l
 
@@ -212,7 +212,7 @@ abbrev pub next_element : Place → ℕ → List Init → Local → Option Turne
 next_element p built (i ∷ rest) l = under FieldMade (Initialize i (Some (field_of_place p built))) (pushed (Building p built rest) l)
 next_element p built [] l = passes l
 
--- one more field of the object of the next frame is made
+-- one more field of an object is made, before the temporaries of its initializer die
 abbrev pub one_more_field : List Frame → List Frame
 one_more_field (Building p built rest ∷ fs) = Building p (suc built) rest ∷ fs
 one_more_field (Constructing p class built rest body ∷ fs) = Constructing p class (suc built) rest body ∷ fs

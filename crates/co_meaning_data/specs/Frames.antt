@@ -141,7 +141,7 @@ pub data Frame : Type 0 where
   Building : (place : Place) (built : ℕ) (rest : List Init) → Frame  -- the fields below number `built` are made
   Constructing : (place : Place) (class : ClassId) (built : ℕ) (rest : List Init) (body : List CoreStmt) → Frame
   -- the ends of objects [class.dtor]
-  Destroying : (place : Place) (class : ClassId) → Frame
+  FieldsEnd : (place : Place) (class : ClassId) → Frame  -- the fields end after the body of a destructor
   Ends : (rest : List Ending) (outcome : Outcome) → Frame
   ObjectEnds : (x : ℕ) → Frame
   PartEnds : (place : Place) → Frame
