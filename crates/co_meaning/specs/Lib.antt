@@ -4,3 +4,7 @@ pub mod Objects
 pub mod Calls
 pub mod Coroutines
 pub mod Expressions
+pub mod Statements
+pub mod Library
+pub mod Step
+pub mod Runs

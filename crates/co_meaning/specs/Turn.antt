@@ -27,8 +27,8 @@ pub record Program : Type 0 where
   pub inputs : List ℤ
   pub sizes : List ℕ
 
--- An agent in a step: the program, its number, what all agents share, the exceptions that it handles, its newest activation, and
--- those below that one.
+-- An agent in a step: the program, its number, what all agents share, the exceptions that it handles, its newest activation,
+-- those below that one, and the events of this step so far.
 pub record Local : Type 0 where
   pub program : Program
   pub worker : ℕ
@@ -36,11 +36,13 @@ pub record Local : Type 0 where
   pub handled : List Thrown
   pub top : Activation
   pub below : List Activation
+  pub seen : List Event
 
--- what a step leaves: what all share, and the agent
+-- what a step leaves: what all share, the agent, and the events of the step
 pub record Turned : Type 0 where
   pub shared : Shared
   pub agent : Agent
+  pub seen : List Event
 
 -- ---- what is seen
 
@@ -85,11 +87,11 @@ abbrev pub with_store : Store → Local → Local
 with_store s l = record l { shared = record l.shared { store = s } }
 
 abbrev pub happens : Event → Local → Local
-happens e l = record l { shared = record l.shared { events = l.shared.events ++ e ∷ [] } }
+happens e l = record l { seen = l.seen ++ e ∷ [] }
 
 -- the agent goes on with this
 abbrev pub goes : Doing → Local → Option Turned
-goes d l = Some (record { shared = l.shared; agent = record { doing = d; activations = l.top ∷ l.below; handled = l.handled; halted = false } })
+goes d l = Some (record { shared = l.shared; agent = record { doing = d; activations = l.top ∷ l.below; handled = l.handled; halted = false }; seen = l.seen })
 
 -- it goes on with this, and the frame is left to be done after it
 abbrev pub under : Frame → Doing → Local → Option Turned
@@ -106,13 +108,13 @@ leaves going l = goes (Comes (Goes going)) l
 
 -- it has nothing more to do
 abbrev pub rests : Doing → Local → Option Turned
-rests d l = Some (record { shared = l.shared; agent = record { doing = d; activations = []; handled = l.handled; halted = false } })
+rests d l = Some (record { shared = l.shared; agent = record { doing = d; activations = []; handled = l.handled; halted = false }; seen = l.seen })
 
 -- an exception may go no further: the agent is halted, and nothing more is unwound [except.terminate]
 abbrev pub is_uncaught : Thrown → Local → Option Turned
 is_uncaught v l =
     let seen = happens (event.Uncaught l.worker v) l in
-    Some (record { shared = seen.shared; agent = record { doing = Comes (Goes (Throwing v)); activations = l.top ∷ l.below; handled = l.handled; halted = true } })
+    Some (record { shared = l.shared; agent = record { doing = Comes (Goes (Throwing v)); activations = l.top ∷ l.below; handled = l.handled; halted = true }; seen = seen.seen })
 
 -- the run ends in an undefined act
 abbrev pub is_undefined : Undef → Span → Local → Option Turned

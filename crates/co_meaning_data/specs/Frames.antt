@@ -246,15 +246,16 @@ pub record Coroutine : Type 0 where
 -- ---- configurations
 
 -- What all agents share: the store, the coroutines by number from 1 on, the posted handles, the oldest first, the value of `main`
--- once it has returned, the events, the oldest first, and whether the run ended in an undefined act.
+-- once it has returned, and whether the run ended in an undefined act.
 pub record Shared : Type 0 where
   pub store : Store
   pub coroutines : List Coroutine
   pub posted : List Value
   pub main : Option ℤ
-  pub events : List Event
   pub undefined : Bool
 
+-- a run: what all agents share, the agents by number, and the events, the oldest first
 pub record Config : Type 0 where
   pub shared : Shared
   pub agents : List Agent
+  pub events : List Event
