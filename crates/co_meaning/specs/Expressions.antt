@@ -1,5 +1,5 @@
 -- Expressions and initializers: which parts are evaluated first, and what is done with what they give [expr] [dcl.init].
-use Rattle.std.specs.Prelude.{ℕ, zero, suc, ◌*◌, Bool, true, false, not, ◌&&◌, if◌then◌else◌, List, [], ◌∷◌, length, slice_get, Option, None, Some, is_none, ℤ, pos}
+use Rattle.std.specs.Prelude.{ℕ, ◌*◌, Bool, true, false, not, ◌&&◌, if◌then◌else◌, List, [], ◌∷◌, length, slice_get, Option, None, Some, is_none, ℤ, pos}
 use Rattle.co_base.specs.Integers.{arith_of, convert_of}
 use Rattle.co_base.specs.declared.ids.ClassId.{ClassId}
 use Rattle.co_base.specs.declared.ids.FuncId.{FuncId}
@@ -18,7 +18,6 @@ use Rattle.co_types.specs.declared.types.Head.{Head}
 use Rattle.co_types.specs.declared.types.Head.TheVariants as head
 use Rattle.co_types.specs.Types.{head_of}
 use Rattle.co_core_tree.specs.Sizes.{words}
-use Rattle.co_core_tree.specs.declared.exprs.AwaitPlan.{AwaitPlan}
 use Rattle.co_core_tree.specs.declared.exprs.CoreExpr.{CoreExpr, end_of-AwaitPlan, end_of-CoreExpr, end_of-DeletePlan, end_of-Init, end_of-NewPlan, items-the_row-CoreExpr, items-the_row-Init, more_of-AwaitPlan, more_of-CoreExpr, more_of-DeletePlan, more_of-Init, more_of-NewPlan}
 use Rattle.co_core_tree.specs.declared.exprs.CoreExpr.TheVariants as expr
 use Rattle.co_core_tree.specs.declared.exprs.DeletePlan.{DeletePlan}
@@ -31,13 +30,12 @@ use Rattle.co_meaning_data.specs.declared.values.Cell.TheVariants as cell
 use Rattle.co_meaning_data.specs.declared.values.Standing.TheVariants as standing
 use Rattle.co_meaning_data.specs.declared.values.Value.{Value}
 use Rattle.co_meaning_data.specs.declared.values.Value.TheVariants as value
-use Rattle.co_meaning_data.specs.Frames.{AddressOf, ArithRight, ArithWith, At, AwaitOperand, BothRight, Building, Calling, ChooseOne, Comes, Constructing, ConvertTo, DeleteEnded, DeleteOf, Doing, Drops, EitherRight, Evaluate, ExchangeFrom, ExchangePlace, ExchangeWith, FieldOf, Frame, Given, Gives, Goes, Initialize, Joined, LoadFrom, NewMade, NewTaken, Nothing, OfLibrary, OnAtomic, OnHandle, Operands, Outcome, Parts, Passes, PickOne, Reads, Referent, Releases, ResultInto, RethrowOf, SameRight, SameWith, Scalar, StoreInto, StoreValue, TempMade, TestOf, ThrowOf, ThrowRead, Throwing, UpdateAt, UpdateFrom, UpdateValue, ValueInto, Writes}
-use Rattle.co_meaning_data.specs.Store.{Place, StoredObject, add_object, end_object, field_of_place, fields_of, make_live, next_object, object_at, raw_object, set_part, set_standing, type_at, whole}
-use Rattle.co_meaning_data.specs.Undefined.{Fault, compares_dangling, is_no_place, is_no_room, is_not_new, is_null, is_same, same_value}
-use Rattle.co_meaning.specs.Access.{load, put}
-use Rattle.co_meaning.specs.Coroutines.{coroutines, is_zero, null_fault, size_given, take_block}
-use Rattle.co_meaning.specs.Objects.{call_with, counted_in, into_full, lives, type_of_slot, with_raw}
-use Rattle.co_meaning.specs.Turn.{Local, Turned, classes, gives, goes, is_uncaught, leaves, nowhere, object_in, passes, pointer, pushed, store, truth, under, unless_undefined, with_frames, with_store}
+use Rattle.co_meaning_data.specs.Frames.{AddressOf, ArithRight, At, AwaitOperand, BothRight, Building, Calling, ChooseOne, Comes, Constructing, ConvertTo, DeleteEnded, DeleteOf, Drops, EitherRight, Evaluate, ExchangePlace, FieldOf, Frame, Given, Gives, Initialize, Joined, LoadFrom, NewMade, NewTaken, Nothing, OfLibrary, OnAtomic, OnHandle, Operands, Outcome, Parts, Passes, PickOne, Reads, Referent, Releases, ResultInto, RethrowOf, SameRight, Scalar, StoreValue, TempMade, TestOf, ThrowOf, ThrowRead, Throwing, UpdateValue, ValueInto, Writes}
+use Rattle.co_meaning_data.specs.Store.{Place, StoredObject, add_object, end_object, fields_of, make_live, next_object, object_at, raw_object, set_part, set_standing, type_at, whole}
+use Rattle.co_meaning_data.specs.Undefined.{compares_dangling, is_no_place, is_no_room, is_not_new, is_null, is_same, same_value}
+use Rattle.co_meaning_calls.specs.Coroutines.{coroutines, is_zero, null_fault, size_given, take_block}
+use Rattle.co_meaning_calls.specs.Objects.{call_with, counted_in, into_full, lives, type_of_slot, with_raw}
+use Rattle.co_meaning_data.specs.Turn.{Local, Turned, classes, gives, goes, is_uncaught, leaves, nowhere, object_in, passes, pointer, pushed, store, truth, under, unless_undefined, with_frames, with_store}
 
 -- ---- places in the text
 

@@ -1,8 +1,3 @@
-pub mod Turn
-pub mod Access
-pub mod Objects
-pub mod Calls
-pub mod Coroutines
 pub mod Expressions
 pub mod Statements
 pub mod Library

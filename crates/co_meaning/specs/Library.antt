@@ -1,12 +1,12 @@
 -- The acts of the library: on handles [coroutine.handle], on atomics [atomics.types.operations], and the calls of `corun`.
-use Rattle.std.specs.Prelude.{ℕ, zero, suc, ◌+◌, ◌/◌, ◌==◌, Bool, true, false, not, ◌||◌, if◌then◌else◌, List, [], ◌∷◌, ◌++◌, length, slice_get, Option, None, Some, ℤ, pos, negsuc, ◌+ℤ◌, ◌-ℤ◌}
+use Rattle.std.specs.Prelude.{ℕ, ◌+◌, ◌/◌, ◌==◌, Bool, true, false, not, ◌||◌, if◌then◌else◌, List, [], ◌∷◌, ◌++◌, length, slice_get, Option, None, Some, ℤ, pos, negsuc, ◌+ℤ◌, ◌-ℤ◌}
 use Rattle.std.specs.Int.{w64, cast_unsigned}
 use Rattle.co_base.specs.Integers.{convert_of}
 use Rattle.co_base.specs.declared.ids.ClassId.{ClassId}
 use Rattle.co_base.specs.declared.kinds.Num.TheVariants as num
 use Rattle.co_base.specs.declared.kinds.Print.{Print}
 use Rattle.co_base.specs.declared.kinds.Print.TheVariants as print
-use Rattle.co_base.specs.declared.kinds.Undef.TheVariants.{U3, U4, U11}
+use Rattle.co_base.specs.declared.kinds.Undef.TheVariants.{U3, U11}
 use Rattle.co_base.specs.declared.span.Span.{Span}
 use Rattle.co_core_tree.specs.Sizes.{at_least_one}
 use Rattle.co_core_tree.specs.declared.kinds.AtomicOp.{AtomicOp}
@@ -20,12 +20,12 @@ use Rattle.co_core_tree.specs.declared.units.PromisePlan.{PromisePlan}
 use Rattle.co_meaning_data.specs.declared.events.Event.TheVariants as event
 use Rattle.co_meaning_data.specs.declared.values.Value.{Value}
 use Rattle.co_meaning_data.specs.declared.values.Value.TheVariants as value
-use Rattle.co_meaning_data.specs.Frames.{At, CompareAt, Coroutine, Given, Gives, Nothing, OfLibrary, OnAtomic, OnHandle, Operation, Outcome, Passes, Reads, Scalar, Writes}
-use Rattle.co_meaning_data.specs.Store.{Place, StoredObject, coroutine_in, object_at, whole}
-use Rattle.co_meaning_data.specs.Undefined.{at_final, is_no_block, is_over, not_suspended, numbered, wrong_object, address_of}
-use Rattle.co_meaning.specs.Access.{swap}
-use Rattle.co_meaning.specs.Coroutines.{coroutines, destroy_handle, null_fault, release_value, resume_handle, take_block}
-use Rattle.co_meaning.specs.Turn.{Local, Turned, funcs, gives, goes, happens, pointer, store, truth, under, unless_undefined}
+use Rattle.co_meaning_data.specs.Frames.{At, CompareAt, Coroutine, Given, Gives, Nothing, OfLibrary, OnAtomic, OnHandle, Operation, Reads, Scalar, Writes}
+use Rattle.co_meaning_data.specs.Store.{Place, coroutine_in, object_at, whole}
+use Rattle.co_meaning_data.specs.Undefined.{at_final, is_no_block, not_suspended, numbered, wrong_object, address_of}
+use Rattle.co_meaning_data.specs.Access.{swap}
+use Rattle.co_meaning_calls.specs.Coroutines.{coroutines, destroy_handle, null_fault, release_value, resume_handle, take_block}
+use Rattle.co_meaning_data.specs.Turn.{Local, Turned, funcs, gives, goes, happens, store, truth, under, unless_undefined}
 
 -- ---- handles
 

@@ -1,5 +1,5 @@
 -- Runs: the start of a program, its moves, and the configuration after a list of moves.
-use Rattle.std.specs.Prelude.{ℕ, zero, suc, ◌+◌, Bool, true, false, if◌then◌else◌, List, [], ◌∷◌, ◌++◌, length, replicate, slice_get, slice_set, take, drop, Option, None, Some, ℤ}
+use Rattle.std.specs.Prelude.{ℕ, suc, Bool, true, false, if◌then◌else◌, List, [], ◌∷◌, ◌++◌, length, replicate, slice_get, slice_set, take, drop, Option, None, Some, ℤ}
 use Rattle.co_base.specs.declared.kinds.AtomicKind.{AtomicKind}
 use Rattle.co_base.specs.declared.kinds.AtomicKind.TheVariants as atomic
 use Rattle.co_base.specs.declared.kinds.Num.TheVariants as num
@@ -9,19 +9,18 @@ use Rattle.co_types.specs.Types.{head_of}
 use Rattle.co_core_tree.specs.declared.units.CoreFunc.{CoreFunc}
 use Rattle.co_core_tree.specs.declared.units.GlobalInfo.{GlobalInfo}
 use Rattle.co_core_tree.specs.declared.units.UnitParts.{UnitParts}
-use Rattle.co_meaning_data.specs.declared.events.Event.{Event}
 use Rattle.co_meaning_data.specs.declared.events.Event.TheVariants as event
 use Rattle.co_meaning_data.specs.declared.events.Move.{Move}
 use Rattle.co_meaning_data.specs.declared.events.Move.TheVariants as move
 use Rattle.co_meaning_data.specs.declared.values.Cell.TheVariants as cell
 use Rattle.co_meaning_data.specs.declared.values.Value.{Value}
 use Rattle.co_meaning_data.specs.declared.values.Value.TheVariants as value
-use Rattle.co_meaning_data.specs.Frames.{Activation, Agent, Config, Execute, Idle, OfBody, OfFunction, Shared}
-use Rattle.co_meaning_data.specs.Store.{Store, StoredObject, live_object}
-use Rattle.co_meaning.specs.Calls.{around}
-use Rattle.co_meaning.specs.Coroutines.{transfer}
+use Rattle.co_meaning_data.specs.Frames.{Activation, Agent, Config, Execute, Idle, OfBody, OfFunction}
+use Rattle.co_meaning_data.specs.Store.{StoredObject, live_object}
+use Rattle.co_meaning_calls.specs.Calls.{around}
+use Rattle.co_meaning_calls.specs.Coroutines.{transfer}
 use Rattle.co_meaning.specs.Step.{act}
-use Rattle.co_meaning.specs.Turn.{Local, Program, Turned, nowhere}
+use Rattle.co_meaning_data.specs.Turn.{Local, Program, Turned, nowhere}
 
 -- ---- the start
 

@@ -1,5 +1,5 @@
 -- Statements [stmt], and the handlers of exceptions [except.handle].
-use Rattle.std.specs.Prelude.{ℕ, zero, suc, Bool, true, false, ◌==◌, if◌then◌else◌, List, [], ◌∷◌, ◌++◌, Option, None, Some, ℤ, pos}
+use Rattle.std.specs.Prelude.{ℕ, Bool, true, false, ◌==◌, if◌then◌else◌, List, [], ◌∷◌, Option, None, Some, ℤ}
 use Rattle.co_base.specs.declared.ids.SlotId.{SlotId}
 use Rattle.co_base.specs.declared.kinds.CatchOf.{CatchOf}
 use Rattle.co_base.specs.declared.kinds.CatchOf.TheVariants as catch
@@ -8,7 +8,6 @@ use Rattle.co_base.specs.declared.kinds.Num.TheVariants as num
 use Rattle.co_base.specs.declared.kinds.Thrown.{Thrown}
 use Rattle.co_base.specs.declared.kinds.Thrown.TheVariants as thrown
 use Rattle.co_base.specs.declared.kinds.Undef.TheVariants.{U6}
-use Rattle.co_base.specs.declared.span.Span.{Span}
 use Rattle.co_types.specs.declared.classes.FieldInfo.{FieldInfo}
 use Rattle.co_types.specs.declared.types.CoType.{CoType}
 use Rattle.co_types.specs.declared.types.Head.{Head}
@@ -22,13 +21,13 @@ use Rattle.co_core_tree.specs.declared.stmts.CoreStmt.TheVariants as stmt
 use Rattle.co_core_tree.specs.declared.stmts.Handler.{Handler}
 use Rattle.co_meaning_data.specs.declared.values.Value.{Value}
 use Rattle.co_meaning_data.specs.declared.values.Value.TheVariants as value
-use Rattle.co_meaning_data.specs.Frames.{BranchOn, Breaking, Comes, Continuing, Declares, Doing, Drops, Evaluate, Execute, Frame, Given, Gives, Goes, Going, Handled, Initialize, Joined, Leaving, LoopBody, LoopStep, LoopTest, Nothing, Outcome, Passes, Returning, Returns, Scalar, Scope, Throwing, Tries, Writes}
+use Rattle.co_meaning_data.specs.Frames.{BranchOn, Breaking, Comes, Continuing, Declares, Drops, Evaluate, Execute, Given, Going, Handled, Initialize, Joined, Leaving, LoopBody, LoopStep, LoopTest, Nothing, Outcome, Passes, Returning, Returns, Scalar, Scope, Throwing, Tries, Writes}
 use Rattle.co_meaning_data.specs.Store.{fields_of, next_object, whole}
-use Rattle.co_meaning.specs.Calls.{opens}
-use Rattle.co_meaning.specs.Coroutines.{is_zero}
+use Rattle.co_meaning_calls.specs.Calls.{opens}
+use Rattle.co_meaning_calls.specs.Coroutines.{is_zero}
 use Rattle.co_meaning.specs.Expressions.{flag}
-use Rattle.co_meaning.specs.Objects.{counted_in, endings, ends, into_scope, lives, type_of_slot, with_raw}
-use Rattle.co_meaning.specs.Turn.{Local, Turned, classes, funcs, goes, is_undefined, leaves, nowhere, passes, pushed, store, under, with_frames}
+use Rattle.co_meaning_calls.specs.Objects.{counted_in, endings, ends, into_scope, lives, type_of_slot, with_raw}
+use Rattle.co_meaning_data.specs.Turn.{Local, Turned, classes, funcs, goes, is_undefined, leaves, nowhere, passes, pushed, store, under, with_frames}
 
 -- ---- full-expressions as parts of statements [intro.execution]
 

@@ -1,21 +1,21 @@
 -- One step of an agent: what it does next, or what comes to the frame on top.
-use Rattle.std.specs.Prelude.{ℕ, zero, suc, ◌+◌, Bool, true, false, not, if◌then◌else◌, List, [], ◌∷◌, ◌++◌, length, replicate, slice_get, slice_set, take, drop, Option, None, Some, ℤ, pos}
+use Rattle.std.specs.Prelude.{ℕ, Bool, true, false, not, List, [], ◌∷◌, length, Option, None, Some}
 use Rattle.co_base.specs.declared.span.Span.{Span}
 use Rattle.co_core_tree.specs.declared.exprs.CoreExpr.{CoreExpr}
 use Rattle.co_core_tree.specs.declared.exprs.Init.{Init}
 use Rattle.co_types.specs.declared.types.CoType.{CoType}
 use Rattle.co_meaning_data.specs.declared.values.Value.{Value}
 use Rattle.co_meaning_data.specs.declared.values.Value.TheVariants as value
-use Rattle.co_meaning_data.specs.Frames.{Activation, AddressOf, Agent, Answers, ArgumentMade, ArithRight, ArithWith, At, AwaitOperand, AwaitReady, AwaitResume, AwaitSuspend, Awaits, Border, BothRight, BranchOn, Breaking, Building, Call, Called, Calling, ChooseOne, Closes, Comes, CompareAt, Constructing, Continuing, ConvertTo, Declares, DeleteEnded, DeleteOf, Destroying, Dies, Doing, Draws, Drops, EitherRight, Ends, EndsPart, Evaluate, ExchangeFrom, ExchangePlace, ExchangeWith, Execute, FieldMade, FieldOf, FieldsEnd, Frame, Full, Function, Given, Gives, Goes, Going, Guards, Handled, HasDied, HasEnded, Holds, Idle, Initialize, IsBorn, IsMade, Joined, Leaving, LoadFrom, LoopBody, LoopStep, LoopTest, NewMade, NewTaken, Nothing, NullDone, ObjectEnds, Opens, Operands, Operation, Outcome, PartEnds, Parts, Passes, PickOne, RampBody, RampCopies, RampDone, RampMade, RampResult, RampTake, RampTaken, Reads, Referent, Releases, ResultInto, RethrowOf, Returning, Returns, SameRight, SameWith, Scalar, Scope, Started, StoreInto, StoreValue, TempMade, TestOf, ThrowOf, ThrowRead, Throwing, Tries, Unhandled, UpdateAt, UpdateFrom, UpdateValue, ValueInto, Writes}
+use Rattle.co_meaning_data.specs.Frames.{AddressOf, Answers, ArgumentMade, ArithRight, ArithWith, At, AwaitOperand, AwaitReady, AwaitResume, AwaitSuspend, Awaits, Border, BothRight, BranchOn, Building, Call, Called, Calling, ChooseOne, Closes, Comes, CompareAt, Constructing, ConvertTo, Declares, DeleteEnded, DeleteOf, Dies, Doing, Draws, Drops, EitherRight, Ends, EndsPart, Evaluate, ExchangeFrom, ExchangePlace, ExchangeWith, Execute, FieldMade, FieldOf, FieldsEnd, Frame, Full, Function, Given, Gives, Goes, Going, Guards, Handled, HasDied, HasEnded, Holds, Idle, Initialize, IsBorn, IsMade, Joined, LoadFrom, LoopBody, LoopStep, LoopTest, NewMade, NewTaken, Nothing, NullDone, ObjectEnds, Opens, Operands, Operation, Outcome, PartEnds, Passes, PickOne, RampBody, RampCopies, RampDone, RampMade, RampResult, RampTake, RampTaken, Reads, Referent, Releases, ResultInto, RethrowOf, Returning, Returns, SameRight, SameWith, Scalar, Scope, Started, StoreInto, StoreValue, TempMade, TestOf, ThrowOf, ThrowRead, Throwing, Tries, Unhandled, UpdateAt, UpdateFrom, UpdateValue, ValueInto, Writes}
 use Rattle.co_meaning_data.specs.Store.{Place, end_part, field_of_place, fields_of, type_at}
-use Rattle.co_meaning.specs.Access.{compare, load, put, reads, writes}
-use Rattle.co_meaning.specs.Calls.{argument, argument_lives, at_border, call_returned, enter, field_made, function_left, last_frame, next_element, next_member, open_step}
-use Rattle.co_meaning.specs.Coroutines.{answer_left, answers, await_operand, await_ready, await_resume, closes, draws, final_await, guard_left, has_ended, hold_left, after_end, is_made, is_zero, ramp_body, ramp_copies, ramp_made, ramp_result, ramp_take, ramp_taken, releases, started, suspends_before, unhandled_left}
+use Rattle.co_meaning_data.specs.Access.{compare, load, put, reads, writes}
+use Rattle.co_meaning_calls.specs.Calls.{argument, argument_lives, at_border, call_returned, enter, field_made, function_left, last_frame, next_element, next_member, open_step}
+use Rattle.co_meaning_calls.specs.Coroutines.{answer_left, answers, await_operand, await_ready, await_resume, closes, draws, final_await, guard_left, has_ended, hold_left, after_end, is_made, is_zero, ramp_body, ramp_copies, ramp_made, ramp_result, ramp_take, ramp_taken, releases, started, suspends_before, unhandled_left}
 use Rattle.co_meaning.specs.Expressions.{arithmetic, both, chooses, compared_with, converted, delete_ended, delete_of, dereferenced, either, evaluate, initialize, new_left, new_made, new_taken, picks, rethrow_parts, temporary_made, tested, thrown_object, throws, updated, values_given}
 use Rattle.co_meaning.specs.Library.{operate}
-use Rattle.co_meaning.specs.Objects.{abandon, dies, end_next, endings, ends, fields_end, has_died, is_born, temporaries_end}
+use Rattle.co_meaning_calls.specs.Objects.{abandon, dies, end_next, endings, ends, fields_end, has_died, is_born, temporaries_end}
 use Rattle.co_meaning.specs.Statements.{branch, declares, execute, handler_left, loop_body, loop_left, loop_step, loop_tested, next_statement, try_left}
-use Rattle.co_meaning.specs.Turn.{Local, Turned, classes, gives, goes, leaves, passes, pointer, pushed, store, under, with_frames, with_store}
+use Rattle.co_meaning_data.specs.Turn.{Local, Turned, classes, gives, goes, leaves, passes, pointer, pushed, store, under, with_frames, with_store}
 
 -- ---- a value comes to a frame
 

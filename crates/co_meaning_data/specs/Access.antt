@@ -9,7 +9,7 @@ use Rattle.co_meaning_data.specs.declared.values.Value.{Value}
 use Rattle.co_meaning_data.specs.Frames.{At, Comes, Given, Gives, Outcome, Passes, Reads, Scalar, Writes}
 use Rattle.co_meaning_data.specs.Store.{Place, cell_at, is_ended, set_cell, type_at, words_of}
 use Rattle.co_meaning_data.specs.Undefined.{Fault, compares_dangling, is_indeterminate, is_outside, is_same}
-use Rattle.co_meaning.specs.Turn.{Local, Turned, classes, given_by, gives, goes, parts_for, store, truth, unless_undefined, with_store}
+use Rattle.co_meaning_data.specs.Turn.{Local, Turned, classes, given_by, gives, goes, parts_for, store, truth, unless_undefined, with_store}
 
 -- ---- reads [conv.lval]
 

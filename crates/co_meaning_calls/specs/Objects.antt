@@ -14,7 +14,7 @@ use Rattle.co_core_tree.specs.declared.units.SlotInfo.{SlotInfo}
 use Rattle.co_meaning_data.specs.declared.events.Event.TheVariants as event
 use Rattle.co_meaning_data.specs.Frames.{At, AwaitSuspend, Call, Calling, Comes, Dies, Doing, Ending, Ends, EndsObject, EndsPart, Frame, Full, Gives, Given, Goes, HasDied, Hold, Holds, IsBorn, ObjectEnds, Outcome, PartEnds, Passes, PassesMark, Scope, Temporal}
 use Rattle.co_meaning_data.specs.Store.{Place, add_object, coroutine_of, end_object, end_part, make_live, next_object, raw_object, type_at, whole}
-use Rattle.co_meaning.specs.Turn.{Local, Turned, classes, func_of, goes, happens, nowhere, passes, pushed, store, under, with_frames, with_slot, with_store}
+use Rattle.co_meaning_data.specs.Turn.{Local, Turned, classes, func_of, goes, happens, nowhere, passes, pushed, store, under, with_frames, with_slot, with_store}
 
 -- ---- making [basic.life]
 

@@ -33,10 +33,10 @@ use Rattle.co_meaning_data.specs.declared.values.Value.TheVariants as value
 use Rattle.co_meaning_data.specs.Frames.{Activation, Answers, At, AwaitOperand, AwaitReady, AwaitResume, AwaitSuspend, Awaits, Call, Calling, Closes, Comes, Condition, Continuation, Coroutine, Destroying, Draws, Drops, Ends, Evaluate, Execute, Final, Frame, Given, Gives, Goes, Going, Guards, Handled, HasEnded, Hold, Holds, Initialize, IsMade, Kind, Leaving, LoadFrom, Nothing, NullDone, OfBody, OfDestroy, OfParked, Opens, Outcome, Over, Passes, RampBody, RampCopies, RampDone, RampMade, RampResult, RampTaken, Releases, Returning, Running, Scalar, Started, Suspended, Throwing, Unhandled}
 use Rattle.co_meaning_data.specs.Store.{Place, add_block, add_object, live_object, next_block, next_object, release, set_part, set_standing, whole}
 use Rattle.co_meaning_data.specs.Undefined.{Fault, at_final, is_no_block, is_no_room, is_null, is_over, not_suspended, not_taken_back, numbered}
-use Rattle.co_meaning.specs.Access.{load}
-use Rattle.co_meaning.specs.Calls.{border, call_acts, calls, mark_count, opens, opens_with, returns, unmade_all}
-use Rattle.co_meaning.specs.Objects.{call_with, counted_in, endings, ends, into_hold, lives, type_of_slot, with_raw}
-use Rattle.co_meaning.specs.Turn.{Local, Turned, classes, frame_bytes, func_of, funcs, gives, goes, happens, leaves, nowhere, passes, plan_in, pointer, pushed, rests, store, under, unless_undefined, with_frames, with_slot, with_store}
+use Rattle.co_meaning_data.specs.Access.{load}
+use Rattle.co_meaning_calls.specs.Calls.{border, call_acts, calls, mark_count, opens, opens_with, returns, unmade_all}
+use Rattle.co_meaning_calls.specs.Objects.{call_with, counted_in, endings, ends, into_hold, lives, type_of_slot, with_raw}
+use Rattle.co_meaning_data.specs.Turn.{Local, Turned, classes, frame_bytes, func_of, funcs, gives, goes, happens, leaves, nowhere, passes, plan_in, pointer, pushed, rests, store, under, unless_undefined, with_frames, with_slot, with_store}
 
 -- ---- coroutines by number
 

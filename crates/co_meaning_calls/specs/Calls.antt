@@ -22,8 +22,8 @@ use Rattle.co_meaning_data.specs.declared.values.Value.{Value}
 use Rattle.co_meaning_data.specs.declared.values.Value.TheVariants as value
 use Rattle.co_meaning_data.specs.Frames.{Activation, ArgumentMade, At, Border, Breaking, Building, Call, Called, Calling, Comes, Constructing, Continuing, Doing, Execute, FieldMade, FieldsEnd, Frame, Full, Function, Given, Gives, Goes, Going, Idle, Initialize, Kind, Leaving, Nothing, OfBody, OfDestroy, OfFunction, OfParked, OfRamp, Opens, Outcome, Parts, Passes, RampTake, Returning, Scalar, Temporal, Throwing}
 use Rattle.co_meaning_data.specs.Store.{Place, Store, add_object, field_of_place, live_object, next_object, whole}
-use Rattle.co_meaning.specs.Objects.{endings, ends, fields_end, lives, slot_type_in, type_of_slot, with_raw}
-use Rattle.co_meaning.specs.Turn.{Local, Turned, classes, func_of, funcs, gives, goes, is_uncaught, leaves, parts_for, passes, pushed, rests, store, under, with_frames, with_slot, with_store}
+use Rattle.co_meaning_calls.specs.Objects.{endings, ends, fields_end, lives, slot_type_in, type_of_slot, with_raw}
+use Rattle.co_meaning_data.specs.Turn.{Local, Turned, classes, func_of, funcs, gives, goes, is_uncaught, leaves, parts_for, passes, pushed, rests, store, under, with_frames, with_slot, with_store}
 
 -- ---- full-expressions [intro.execution]
 
