@@ -3,3 +3,5 @@ pub mod Statements
 pub mod Library
 pub mod Step
 pub mod Runs
+pub mod Balanced
+pub mod Laws
