@@ -1,5 +1,5 @@
 -- When the births and the deaths of objects balance.
-use Rattle.std.specs.Prelude.{ℕ, zero, suc, ◌≡◌, ◌≤◌, ◌==◌, ◌&&◌, Bool, true, false, if◌then◌else◌, List, [], ◌∷◌, ◌++◌}
+use Rattle.std.specs.Prelude.{ℕ, suc, ◌≡◌, ◌≤◌, ◌==◌, ◌&&◌, if◌then◌else◌, List, [], ◌∷◌, ◌++◌}
 use Rattle.co_meaning_data.specs.declared.events.Event.{Event}
 use Rattle.co_meaning_data.specs.declared.events.Event.TheVariants as event
 

@@ -1,5 +1,5 @@
 -- What holds of every step and of every run.
-use Rattle.std.specs.Prelude.{ℕ, ◌≡◌, ◌≢◌, ◌++◌, true, List, Option, None, Some, slice_get}
+use Rattle.std.specs.Prelude.{ℕ, ◌≡◌, ◌≢◌, ◌++◌, true, List, None, Some, slice_get}
 use Rattle.co_meaning_data.specs.declared.events.Event.{Event}
 use Rattle.co_meaning_data.specs.declared.events.Move.{Move}
 use Rattle.co_meaning_data.specs.declared.events.Move.TheVariants as move
