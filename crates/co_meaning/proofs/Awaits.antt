@@ -1,22 +1,18 @@
 -- Runs of coroutines with awaiters of their own: each answer of `await_suspend`, exceptions, transfer, and several agents.
-use Rattle.std.proofs.Common.{◌≡◌, ℕ, zero, suc, List, [], ◌∷◌, ◌++◌, Bool, true, false, Some, None, refl}
+use Rattle.std.proofs.Common.{◌≡◌, ℕ, List, [], ◌∷◌, ◌++◌, Some, None, refl}
 use Rattle.std.specs.Prelude.{ℤ, pos, Option, replicate}
-use Rattle.co_base.specs.declared.kinds.AtomicKind.TheVariants as atomic_kind
 use Rattle.co_base.specs.declared.kinds.CatchOf.TheVariants as catch
 use Rattle.co_base.specs.declared.kinds.Num.TheVariants as num
 use Rattle.co_base.specs.declared.kinds.Print.TheVariants as print
 use Rattle.co_base.specs.declared.kinds.Thrown.TheVariants as thrown
-use Rattle.co_base.specs.declared.kinds.Undef.TheVariants.{U1, U2, U4, U11}
+use Rattle.co_base.specs.declared.kinds.Undef.TheVariants.{U1, U2}
 use Rattle.co_types.specs.declared.types.CoType.{CoType}
 use Rattle.co_types.specs.declared.types.CoType.TheVariants as type
-use Rattle.co_core_tree.specs.declared.exprs.AwaitPlan.{AwaitPlan}
 use Rattle.co_core_tree.specs.declared.exprs.CoreExpr.{CoreExpr, end_of-AwaitPlan, end_of-CoreExpr, end_of-Init, more_of-AwaitPlan, more_of-CoreExpr, more_of-Init}
 use Rattle.co_core_tree.specs.declared.exprs.CoreExpr.TheVariants as expr
-use Rattle.co_core_tree.specs.declared.exprs.Init.{Init}
 use Rattle.co_core_tree.specs.declared.exprs.Init.TheVariants as init
 use Rattle.co_core_tree.specs.declared.kinds.Answer.{Answer}
 use Rattle.co_core_tree.specs.declared.kinds.Answer.TheVariants as answer
-use Rattle.co_core_tree.specs.declared.kinds.AtomicOp.TheVariants as atomic
 use Rattle.co_core_tree.specs.declared.kinds.HandleOp.TheVariants as handle
 use Rattle.co_core_tree.specs.declared.kinds.LibOp.TheVariants as library
 use Rattle.co_core_tree.specs.declared.kinds.SlotKind.TheVariants as kind
@@ -24,14 +20,12 @@ use Rattle.co_core_tree.specs.declared.stmts.CoreStmt.{CoreStmt, end_of-CoreStmt
 use Rattle.co_core_tree.specs.declared.stmts.CoreStmt.TheVariants as stmt
 use Rattle.co_core_tree.specs.declared.units.CoreFunc.{CoreFunc}
 use Rattle.co_core_tree.specs.declared.units.SlotInfo.{SlotInfo}
-use Rattle.co_meaning_data.specs.declared.events.Event.{Event}
 use Rattle.co_meaning_data.specs.declared.events.Event.TheVariants as event
 use Rattle.co_meaning_data.specs.declared.events.Move.{Move}
 use Rattle.co_meaning_data.specs.declared.events.Move.TheVariants as move
-use Rattle.co_meaning_data.specs.Frames.{Config}
 use Rattle.co_meaning_data.specs.Turn.{Program}
 use Rattle.co_meaning.specs.Runs.{runs}
-use Rattle.co_meaning.proofs.Building.{here, slot, long, variable, load, prints, two, three, five, return_zero, function, program, alone, field, class, of_class, refers, this, param, nothing, one, id, call, makes_job, on_job, handle_of_job, job_funcs, awaits, temporary, promise_slot, library_await, with_this, handle_op, local, zero_int}
+use Rattle.co_meaning.proofs.Building.{here, slot, long, variable, load, prints, two, three, return_zero, function, program, alone, field, class, of_class, refers, param, id, makes_job, on_job, handle_of_job, job_funcs, awaits, with_this, handle_op, local}
 
 -- ---- programs
 
@@ -53,12 +47,12 @@ own_handle = handle_op handle.FromPromise (variable 0)
 abbrev own_await : Answer → ℕ → CoreExpr
 own_await a point =
     expr.Await' _ (more_of-AwaitPlan
-      (expr.Temp' (slot 4) _ (more_of-Init (init.Members' [] end_of-Init) end_of-Init) here) (slot 4)
-      (expr.Call' (id 6) (tt ∷ []) (more_of-Init (init.Value (variable 4)) end_of-Init) here)
-      (expr.Call' (id 7) (tt ∷ tt ∷ []) (more_of-Init (init.Value (variable 4)) (more_of-Init (init.Value own_handle) end_of-Init)) here)
-      a
-      (expr.Call' (id 8) (tt ∷ []) (more_of-Init (init.Value (variable 4)) end_of-Init) here)
-      (record { 0 = point }) here end_of-AwaitPlan)
+    (expr.Temp' (slot 4) _ (more_of-Init (init.Members' [] end_of-Init) end_of-Init) here) (slot 4)
+    (expr.Call' (id 6) (tt ∷ []) (more_of-Init (init.Value (variable 4)) end_of-Init) here)
+    (expr.Call' (id 7) (tt ∷ tt ∷ []) (more_of-Init (init.Value (variable 4)) (more_of-Init (init.Value own_handle) end_of-Init)) here)
+    a
+    (expr.Call' (id 8) (tt ∷ []) (more_of-Init (init.Value (variable 4)) end_of-Init) here)
+    (record { 0 = point }) here end_of-AwaitPlan)
 
 abbrev own_awaits : Answer → CoreStmt
 own_awaits a = stmt.Full (own_await a 3) here
@@ -86,7 +80,7 @@ with_slots more fs = fs
 abbrev awaiting : List CoreFunc → CoreStmt → CoreStmt → Program
 awaiting more main body =
     record (program (class 80 (field (type.Num num.Long) ∷ []) [] ∷ class 74 (field (type.Handle None) ∷ []) [] ∷ class 65 [] [] ∷ [])
-      (with_slots (record { of = of_class 2; kind = kind.Temp } ∷ local (type.Num num.Int) ∷ []) (job_funcs main body) ++ more)) { sizes = 64 ∷ [] }
+    (with_slots (record { of = of_class 2; kind = kind.Temp } ∷ local (type.Num num.Int) ∷ []) (job_funcs main body) ++ more)) { sizes = 64 ∷ [] }
 
 abbrev destroys_job : CoreStmt
 destroys_job = three makes_job (on_job handle.Destroy) return_zero

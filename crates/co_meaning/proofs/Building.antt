@@ -159,7 +159,7 @@ five a b c d e = stmt.Scope' (tt ∷ tt ∷ tt ∷ tt ∷ tt ∷ []) (more_of-Co
 abbrev pub coroutine : CoreStmt → CoreFunc
 coroutine body =
     record (function [] (of_class 1) (promise_slot ∷ temporary ∷ temporary ∷ temporary ∷ []) body)
-      { plan = Some (record { promise = record { 0 = 0 }; ctor = Some (id 5); with_params = false; ctor_args = []; copies = []; take = take_plan.Global; take_args = []; on_null = None; give = give.Global; result = id 2; initial = library_await 1 1 0; last = library_await 0 2 1; returns = returns.Void (id 3); unhandled = id 4 }) }
+    { plan = Some (record { promise = record { 0 = 0 }; ctor = Some (id 5); with_params = false; ctor_args = []; copies = []; take = take_plan.Global; take_args = []; on_null = None; give = give.Global; result = id 2; initial = library_await 1 1 0; last = library_await 0 2 1; returns = returns.Void (id 3); unhandled = id 4 }) }
 
 abbrev pub job_funcs : CoreStmt → CoreStmt → List CoreFunc
 job_funcs main body =

@@ -15,15 +15,14 @@ use Rattle.co_base.specs.declared.kinds.CatchOf.TheVariants as catch
 use Rattle.co_base.specs.declared.kinds.Undef.TheVariants.{U2}
 use Rattle.co_core_tree.specs.declared.kinds.HandleOp.TheVariants as handle
 use Rattle.co_core_tree.specs.declared.stmts.CoreStmt.{end_of-Handler, more_of-Handler}
-
 use Rattle.co_meaning.proofs.Building.{here, slot, long, variable, load, prints, less, adds, two, three, return_zero, local, function, program, alone, field, destructor, class, of_class, this, member, param, nothing, one, call, constructor, ends_by, made_by, awaits, five, job, makes_job, on_job, body_of_two}
 
 -- `int main() { for (long i = 0; i < 3; i += 1) corun::print(i); return 0; }`
 abbrev counts_to_three : Program
 counts_to_three = program [] (function [] (type.Num num.Int) (local (type.Num num.Long) ∷ [])
     (three (stmt.Local (slot 0) (init.Value (long 0)) here)
-           (stmt.Loop' (less (load (variable 0)) (long 3)) (adds (variable 0) (long 1)) _ (more_of-CoreStmt (prints (load (variable 0))) end_of-CoreStmt) here)
-           return_zero) ∷ [])
+    (stmt.Loop' (less (load (variable 0)) (long 3)) (adds (variable 0) (long 1)) _ (more_of-CoreStmt (prints (load (variable 0))) end_of-CoreStmt) here)
+    return_zero) ∷ [])
 
 prints_three : (alone counts_to_three 200).events ≡ event.Print 0 (print.Num (pos 0)) ∷ event.Print 0 (print.Num (pos 1)) ∷ event.Print 0 (print.Num (pos 2)) ∷ []
 prints_three = refl
@@ -40,10 +39,10 @@ returns_zero = refl
 abbrev half_way : Program
 half_way = program
     (class 84 (field (type.Num num.Long) ∷ []) (destructor 84 2 ∷ []) ∷ class 80 (field (of_class 0) ∷ field (of_class 0) ∷ []) (destructor 80 5 ∷ []) ∷ [])
-    ( function [] (type.Num num.Int) (local (of_class 1) ∷ local (type.Num num.Int) ∷ [])
-        (two (stmt.Try' _ (more_of-CoreStmt (one (stmt.Local (slot 0) (init.Ctor' (record { 0 = 3 }) [] end_of-Init) here)) end_of-CoreStmt)
-                (tt ∷ []) (more_of-Handler (catch.Int) (Some (slot 1)) (prints (expr.Convert' num.Long _ (more_of-CoreExpr (load (variable 1)) end_of-CoreExpr) here)) end_of-Handler) here)
-             return_zero)
+    (function [] (type.Num num.Int) (local (of_class 1) ∷ local (type.Num num.Int) ∷ [])
+    (two (stmt.Try' _ (more_of-CoreStmt (one (stmt.Local (slot 0) (init.Ctor' (record { 0 = 3 }) [] end_of-Init) here)) end_of-CoreStmt)
+    (tt ∷ []) (more_of-Handler (catch.Int) (Some (slot 1)) (prints (expr.Convert' num.Long _ (more_of-CoreExpr (load (variable 1)) end_of-CoreExpr) here)) end_of-Handler) here)
+    return_zero)
     ∷ constructor 0 1 (init.Value (load (variable 1)) ∷ []) (param (type.Num num.Long) ∷ []) nothing
     ∷ ends_by 0 (prints (load (member this 0)))
     ∷ constructor 1 0 (made_by 1 (long 1) ∷ made_by 1 (call 4) ∷ []) [] nothing

@@ -1,12 +1,11 @@
 -- Runs of programs with storage of their own, class parameters, conditional temporaries, atomics and undefined acts.
-use Rattle.std.proofs.Common.{◌≡◌, ℕ, zero, suc, List, [], ◌∷◌, ◌++◌, Bool, true, false, Some, None, refl}
+use Rattle.std.proofs.Common.{◌≡◌, ℕ, suc, List, [], ◌∷◌, Bool, true, false, Some, refl}
 use Rattle.std.specs.Prelude.{ℤ, pos, Option, replicate}
-use Rattle.co_base.specs.declared.kinds.CatchOf.TheVariants as catch
 use Rattle.co_base.specs.declared.kinds.AtomicKind.TheVariants as atomic_kind
 use Rattle.co_base.specs.declared.kinds.Num.TheVariants as num
 use Rattle.co_base.specs.declared.kinds.Op.TheVariants as op
 use Rattle.co_base.specs.declared.kinds.Print.TheVariants as print
-use Rattle.co_base.specs.declared.kinds.Undef.TheVariants.{U3, U4, U5, U7, U8, U9, U10, U11}
+use Rattle.co_base.specs.declared.kinds.Undef.TheVariants.{U4, U5, U7, U8, U9, U10, U11}
 use Rattle.co_types.specs.declared.types.CoType.{CoType, end_of-CoType, more_of-CoType}
 use Rattle.co_types.specs.declared.types.CoType.TheVariants as type
 use Rattle.co_core_tree.specs.declared.exprs.CoreExpr.{CoreExpr, end_of-CoreExpr, end_of-DeletePlan, end_of-Init, end_of-NewPlan, more_of-CoreExpr, more_of-DeletePlan, more_of-Init, more_of-NewPlan}
@@ -16,18 +15,15 @@ use Rattle.co_core_tree.specs.declared.exprs.Init.TheVariants as init
 use Rattle.co_core_tree.specs.declared.kinds.AtomicOp.TheVariants as atomic
 use Rattle.co_core_tree.specs.declared.kinds.GivePlan.TheVariants as give
 use Rattle.co_core_tree.specs.declared.kinds.HandleOp.TheVariants as handle
-use Rattle.co_core_tree.specs.declared.kinds.LibOp.TheVariants as library
 use Rattle.co_core_tree.specs.declared.kinds.SlotKind.TheVariants as kind
 use Rattle.co_core_tree.specs.declared.kinds.TakePlan.{TakePlan}
 use Rattle.co_core_tree.specs.declared.kinds.TakePlan.TheVariants as take_plan
-use Rattle.co_core_tree.specs.declared.stmts.CoreStmt.{CoreStmt, end_of-CoreStmt, more_of-CoreStmt}
+use Rattle.co_core_tree.specs.declared.stmts.CoreStmt.{CoreStmt}
 use Rattle.co_core_tree.specs.declared.stmts.CoreStmt.TheVariants as stmt
 use Rattle.co_core_tree.specs.declared.units.CoreFunc.{CoreFunc}
-use Rattle.co_core_tree.specs.declared.units.GlobalInfo.{GlobalInfo}
-use Rattle.co_meaning_data.specs.declared.events.Event.{Event}
 use Rattle.co_meaning_data.specs.declared.events.Event.TheVariants as event
 use Rattle.co_meaning_data.specs.Turn.{Program}
-use Rattle.co_meaning.proofs.Building.{here, slot, long, variable, load, prints, two, three, five, return_zero, function, program, alone, field, class, constructor, destructor, ends_by, made_by, member, of_class, this, param, nothing, one, id, call, local, job, makes_job, on_job, handle_of_job, awaits, with_this}
+use Rattle.co_meaning.proofs.Building.{here, slot, long, variable, load, prints, two, three, five, return_zero, function, program, alone, field, class, constructor, destructor, ends_by, made_by, member, of_class, this, param, nothing, id, call, local, job, makes_job, on_job, handle_of_job, awaits, with_this}
 
 abbrev pointer_to : CoType → CoType
 pointer_to of = type.Pointer' _ (more_of-CoType of end_of-CoType)
@@ -48,7 +44,7 @@ does e = stmt.Full e here
 abbrev with_t : List CoreFunc → CoreFunc → Program
 with_t more main =
     program (class 84 (field (type.Num num.Long) ∷ []) (destructor 84 2 ∷ []) ∷ [])
-      (main ∷ constructor 0 1 (init.Value (load (variable 1)) ∷ []) (param (type.Num num.Long) ∷ []) nothing ∷ ends_by 0 (prints (load (member this 0))) ∷ more)
+    (main ∷ constructor 0 1 (init.Value (load (variable 1)) ∷ []) (param (type.Num num.Long) ∷ []) nothing ∷ ends_by 0 (prints (load (member this 0))) ∷ more)
 
 abbrev main_of : List CoType → CoreStmt → CoreFunc
 main_of locals body = function [] (type.Num num.Int) (Rattle.std.specs.Prelude.map local locals) body
@@ -103,7 +99,7 @@ temp n i = expr.Temp' (slot n) _ (more_of-Init i end_of-Init) here
 abbrev calls_with_two : CoreExpr → Program
 calls_with_two second =
     let main : CoreFunc = record (main_of [] (two (does (expr.Call' (id 3) (tt ∷ tt ∷ []) (more_of-Init (init.Value (temp 0 (made_by 1 (long 1)))) (more_of-Init (init.Value (temp 1 (made_by 1 second))) end_of-Init)) here)) return_zero))
-      { slots = record { of = of_class 0; kind = kind.Temp } ∷ record { of = of_class 0; kind = kind.Temp } ∷ [] } in
+    { slots = record { of = of_class 0; kind = kind.Temp } ∷ record { of = of_class 0; kind = kind.Temp } ∷ [] } in
     with_t (takes_two ∷ throwing ∷ []) main
 
 called_with_two : (alone (calls_with_two (long 2)) 300).events ≡ event.Print 0 (print.Num (pos 3)) ∷ event.Print 0 (print.Num (pos 2)) ∷ event.Print 0 (print.Num (pos 1)) ∷ []
@@ -120,7 +116,7 @@ abbrev picks_one : ℕ → Program
 picks_one b =
     let branch : ℕ → CoreExpr = λ n. load (member (temp n (made_by 1 (long (Rattle.std.specs.Prelude.suc n)))) 0) in
     let main : CoreFunc = record (main_of [] (two (prints (expr.Pick' _ (more_of-CoreExpr (expr.Const num.Bool (pos b) here) end_of-CoreExpr) _ (more_of-CoreExpr (branch 0) end_of-CoreExpr) _ (more_of-CoreExpr (branch 1) end_of-CoreExpr) here)) return_zero))
-      { slots = record { of = of_class 0; kind = kind.Temp } ∷ record { of = of_class 0; kind = kind.Temp } ∷ [] } in
+    { slots = record { of = of_class 0; kind = kind.Temp } ∷ record { of = of_class 0; kind = kind.Temp } ∷ [] } in
     with_t [] main
 
 picked_first : (alone (picks_one 1) 200).events ≡ event.Print 0 (print.Num (pos 1)) ∷ event.Print 0 (print.Num (pos 1)) ∷ []
@@ -144,8 +140,8 @@ as_long e = expr.Convert' num.Long _ (more_of-CoreExpr e end_of-CoreExpr) here
 abbrev on_atomics : Program
 on_atomics =
     let p : Program = program [] (main_of (type.Num num.Int ∷ []) (five (prints (as_long (on_atomic atomic.Add (int 1)))) (declares 0 (init.Value (int 3)))
-        (prints (as_long (expr.Atomic' atomic.Cas (tt ∷ tt ∷ tt ∷ []) (more_of-CoreExpr (expr.Global 0 here) (more_of-CoreExpr (variable 0) (more_of-CoreExpr (int 4) end_of-CoreExpr))) here)))
-        (prints (as_long (load (variable 0)))) return_zero) ∷ []) in
+    (prints (as_long (expr.Atomic' atomic.Cas (tt ∷ tt ∷ tt ∷ []) (more_of-CoreExpr (expr.Global 0 here) (more_of-CoreExpr (variable 0) (more_of-CoreExpr (int 4) end_of-CoreExpr))) here)))
+    (prints (as_long (load (variable 0)))) return_zero) ∷ []) in
     record p { unit = record p.unit { globals = record { of = type.Atomic atomic_kind.Int; value = pos 2147483647 } ∷ [] } }
 
 atomics_wrap : (alone on_atomics 200).events ≡ event.Print 0 (print.Num (pos 2147483647)) ∷ event.Print 0 (print.Num (pos 0)) ∷ event.Print 0 (print.Num (Rattle.std.specs.Prelude.negsuc 2147483647)) ∷ []

@@ -136,7 +136,7 @@ update_gives false v p = Gives (At p)
 abbrev pub update_writes : Num → ℤ → Option ℤ → Place → Bool → Span → Local → Option Turned
 update_writes n a r p old at l =
     unless_undefined (record { kind = U5; holds = is_none r } ∷ []) at l
-      (goes (Writes false p 0 (value.Number n (convert_of n (or_none r)) ∷ []) (update_gives old (value.Number n a) p) at) l)
+    (goes (Writes false p 0 (value.Number n (convert_of n (or_none r)) ∷ []) (update_gives old (value.Number n a) p) at) l)
 
 -- What was loaded is converted, and the result is converted to the type of the place [expr.ass].
 abbrev pub updated : Op → Num → Given → Place → Bool → Given → Span → Local → Option Turned

@@ -4,4 +4,5 @@ pub mod Library
 pub mod Step
 pub mod Runs
 pub mod Balanced
+pub mod Room
 pub mod Laws

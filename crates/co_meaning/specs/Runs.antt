@@ -56,10 +56,11 @@ main_agent unit (Some func) = record { doing = Execute func.body; activations = 
 -- Agent 0 is in `main`, the other `more` have nothing to do, and each global has its constant [basic.start.main].
 abbrev pub start : UnitParts → ℕ → Config
 start unit more =
-    record
-      { shared = record { store = record { objects = global_objects unit.globals; blocks = [] }; coroutines = []; posted = []; main = None; undefined = false }
-      ; agents = main_agent unit (slice_get unit.funcs unit.main.0) ∷ replicate more idle_agent
-      ; events = [] }
+    record {
+      shared = record { store = record { objects = global_objects unit.globals; blocks = [] }; coroutines = []; posted = []; main = None; undefined = false };
+      agents = main_agent unit (slice_get unit.funcs unit.main.0) ∷ replicate more idle_agent;
+      events = [];
+    }
 
 -- ---- moves
 

@@ -1,13 +1,11 @@
 -- Calls of functions [expr.call], what stands around their bodies, and how they return.
 use Rattle.std.specs.Prelude.{ℕ, zero, suc, Bool, true, false, if◌then◌else◌, List, [], ◌∷◌, ◌++◌, length, replicate, reverse, slice_get, slice_set, Option, None, Some, is_some, ℤ, pos}
 use Rattle.co_base.specs.declared.ids.ClassId.{ClassId}
-use Rattle.co_base.specs.declared.ids.FuncId.{FuncId}
 use Rattle.co_base.specs.declared.ids.SlotId.{SlotId}
-use Rattle.co_base.specs.declared.span.Span.{Span}
 use Rattle.co_types.specs.declared.types.CoType.{CoType}
 use Rattle.co_core_tree.specs.Acts.{Act, init_acts}
 use Rattle.co_core_tree.specs.Slots.{Temporary, class_params, holds_class, is_class, slot_at, temporaries}
-use Rattle.co_core_tree.specs.declared.exprs.CoreExpr.{CoreExpr, Row_of-Init, end_of-Init, more_of-Init, items-the_row-Init}
+use Rattle.co_core_tree.specs.declared.exprs.CoreExpr.{CoreExpr, end_of-Init, more_of-Init}
 use Rattle.co_core_tree.specs.declared.exprs.CoreExpr.TheVariants as expr
 use Rattle.co_core_tree.specs.declared.exprs.Init.{Init}
 use Rattle.co_core_tree.specs.declared.exprs.Init.TheVariants as init
@@ -20,10 +18,10 @@ use Rattle.co_meaning_data.specs.declared.values.Cell.{Cell}
 use Rattle.co_meaning_data.specs.declared.values.Cell.TheVariants as cell
 use Rattle.co_meaning_data.specs.declared.values.Value.{Value}
 use Rattle.co_meaning_data.specs.declared.values.Value.TheVariants as value
-use Rattle.co_meaning_data.specs.Frames.{Activation, ArgumentMade, At, Border, Breaking, Building, Call, Called, Calling, Comes, Constructing, Continuing, Doing, Execute, FieldMade, FieldsEnd, Frame, Full, Function, Given, Gives, Goes, Going, Idle, Initialize, Kind, Leaving, Nothing, OfBody, OfDestroy, OfFunction, OfParked, OfRamp, Opens, Outcome, Parts, Passes, RampTake, Returning, Scalar, Temporal, Throwing}
+use Rattle.co_meaning_data.specs.Frames.{Activation, ArgumentMade, At, Border, Building, Call, Called, Calling, Comes, Constructing, Doing, Execute, FieldMade, FieldsEnd, Frame, Full, Function, Given, Gives, Goes, Going, Idle, Initialize, Kind, Nothing, OfFunction, OfRamp, Opens, Outcome, Passes, RampTake, Returning, Scalar, Temporal, Throwing}
 use Rattle.co_meaning_data.specs.Store.{Place, Store, add_object, field_of_place, live_object, next_object, whole}
-use Rattle.co_meaning_calls.specs.Objects.{endings, ends, fields_end, lives, slot_type_in, type_of_slot, with_raw}
-use Rattle.co_meaning_data.specs.Turn.{Local, Turned, classes, func_of, funcs, gives, goes, is_uncaught, leaves, parts_for, passes, pushed, rests, store, under, with_frames, with_slot, with_store}
+use Rattle.co_meaning_calls.specs.Objects.{endings, ends, lives, slot_type_in, type_of_slot, with_raw}
+use Rattle.co_meaning_data.specs.Turn.{Local, Turned, func_of, funcs, gives, goes, is_uncaught, leaves, parts_for, passes, pushed, rests, store, under, with_frames, with_store}
 
 -- ---- full-expressions [intro.execution]
 

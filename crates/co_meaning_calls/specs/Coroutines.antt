@@ -1,14 +1,14 @@
 -- Coroutines: how they are called, suspended, resumed and ended [dcl.fct.def.coroutine] [expr.await] [coroutine.handle].
-use Rattle.std.specs.Prelude.{ℕ, zero, suc, ◌+◌, ◌*◌, ◌/◌, ◌==◌, Bool, true, false, not, if◌then◌else◌, List, [], ◌∷◌, ◌++◌, length, slice_get, slice_set, Option, None, Some, ℤ, pos, negsuc}
+use Rattle.std.specs.Prelude.{ℕ, zero, suc, ◌*◌, ◌/◌, ◌==◌, Bool, true, false, if◌then◌else◌, List, [], ◌∷◌, ◌++◌, length, slice_get, slice_set, Option, None, Some, ℤ, pos}
 use Rattle.std.specs.Int.{w64, cast_signed}
 use Rattle.co_base.specs.declared.ids.FuncId.{FuncId}
 use Rattle.co_base.specs.declared.kinds.Num.TheVariants as num
 use Rattle.co_base.specs.declared.kinds.Thrown.{Thrown}
-use Rattle.co_base.specs.declared.kinds.Undef.TheVariants.{U1, U2, U3, U4, U10, U11}
+use Rattle.co_base.specs.declared.kinds.Undef.TheVariants.{U1, U2, U4, U10, U11}
 use Rattle.co_base.specs.declared.span.Span.{Span}
 use Rattle.co_types.specs.declared.types.CoType.{CoType}
 use Rattle.co_core_tree.specs.Acts.{Act, acts, init_acts}
-use Rattle.co_core_tree.specs.Slots.{class_params, is_held, slot_at}
+use Rattle.co_core_tree.specs.Slots.{class_params, is_held}
 use Rattle.co_core_tree.specs.declared.exprs.AwaitPlan.{AwaitPlan}
 use Rattle.co_core_tree.specs.declared.exprs.CoreExpr.{CoreExpr, end_of-CoreExpr, more_of-CoreExpr}
 use Rattle.co_core_tree.specs.declared.exprs.CoreExpr.TheVariants as expr
@@ -30,13 +30,12 @@ use Rattle.co_meaning_data.specs.declared.values.Cell.TheVariants as cell
 use Rattle.co_meaning_data.specs.declared.values.Standing.TheVariants as standing
 use Rattle.co_meaning_data.specs.declared.values.Value.{Value}
 use Rattle.co_meaning_data.specs.declared.values.Value.TheVariants as value
-use Rattle.co_meaning_data.specs.Frames.{Activation, Answers, At, AwaitOperand, AwaitReady, AwaitResume, AwaitSuspend, Awaits, Call, Calling, Closes, Comes, Condition, Continuation, Coroutine, Destroying, Draws, Drops, Ends, Evaluate, Execute, Final, Frame, Given, Gives, Goes, Going, Guards, Handled, HasEnded, Hold, Holds, Initialize, IsMade, Kind, Leaving, LoadFrom, Nothing, NullDone, OfBody, OfDestroy, OfParked, Opens, Outcome, Over, Passes, RampBody, RampCopies, RampDone, RampMade, RampResult, RampTaken, Releases, Returning, Running, Scalar, Started, Suspended, Throwing, Unhandled}
+use Rattle.co_meaning_data.specs.Frames.{Activation, Answers, At, AwaitReady, AwaitResume, AwaitSuspend, Awaits, Call, Calling, Closes, Comes, Condition, Continuation, Coroutine, Destroying, Draws, Drops, Ends, Evaluate, Execute, Final, Frame, Given, Gives, Goes, Going, Guards, Handled, HasEnded, Hold, Holds, Initialize, IsMade, Kind, Leaving, LoadFrom, Nothing, NullDone, OfBody, OfDestroy, OfParked, Outcome, Over, Passes, RampBody, RampCopies, RampDone, RampMade, RampResult, RampTaken, Releases, Running, Scalar, Started, Suspended, Throwing, Unhandled}
 use Rattle.co_meaning_data.specs.Store.{Place, add_block, add_object, live_object, next_block, next_object, release, set_part, set_standing, whole}
-use Rattle.co_meaning_data.specs.Undefined.{Fault, at_final, is_no_block, is_no_room, is_null, is_over, not_suspended, not_taken_back, numbered}
-use Rattle.co_meaning_data.specs.Access.{load}
-use Rattle.co_meaning_calls.specs.Calls.{border, call_acts, calls, mark_count, opens, opens_with, returns, unmade_all}
+use Rattle.co_meaning_data.specs.Undefined.{Fault, at_final, is_no_block, is_no_room, not_suspended, not_taken_back, numbered}
+use Rattle.co_meaning_calls.specs.Calls.{border, call_acts, calls, opens, returns}
 use Rattle.co_meaning_calls.specs.Objects.{call_with, counted_in, endings, ends, into_hold, lives, type_of_slot, with_raw}
-use Rattle.co_meaning_data.specs.Turn.{Local, Turned, classes, frame_bytes, func_of, funcs, gives, goes, happens, leaves, nowhere, passes, plan_in, pointer, pushed, rests, store, under, unless_undefined, with_frames, with_slot, with_store}
+use Rattle.co_meaning_data.specs.Turn.{Local, Turned, classes, frame_bytes, func_of, funcs, gives, goes, happens, leaves, nowhere, passes, plan_in, pointer, pushed, store, under, unless_undefined, with_frames, with_slot, with_store}
 
 -- ---- coroutines by number
 
@@ -304,14 +303,10 @@ serial_of (Some c) = serial_of_condition c.condition
 abbrev pub serial_now : ℕ → Local → ℕ
 serial_now n l = serial_of (numbered (coroutines l) n)
 
-abbrev pub after_hold : List Frame → List Frame
-after_hold [] = []
-after_hold (f ∷ fs) = fs
-
 abbrev pub escapes : ℕ → Thrown → Local → Option Turned
 escapes n v l =
     let rest : Continuation = record { slots = l.top.slots; frames = l.top.frames } in
-    leaves (Throwing v) (with_frames (after_hold l.top.frames) (set_condition n (Final 2 (suc (serial_now n l)) rest) l))
+    leaves (Throwing v) (with_frames (border (is_noexcept_in (func_of l))) (set_condition n (Final 2 (suc (serial_now n l)) rest) l))
 
 abbrev pub escapes_from : Option ℕ → Thrown → Local → Option Turned
 escapes_from None v l = None

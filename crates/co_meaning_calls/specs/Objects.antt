@@ -1,5 +1,5 @@
 -- How objects are made and how they end.
-use Rattle.std.specs.Prelude.{ℕ, zero, suc, Bool, true, false, ◌&&◌, ◌==◌, if◌then◌else◌, List, [], ◌∷◌, ◌++◌, length, slice_get, slice_set, Option, None, Some}
+use Rattle.std.specs.Prelude.{ℕ, zero, suc, Bool, true, false, ◌==◌, if◌then◌else◌, List, [], ◌∷◌, ◌++◌, slice_get, Option, None, Some}
 use Rattle.co_base.specs.declared.ids.FuncId.{FuncId}
 use Rattle.co_base.specs.declared.span.Span.{Span}
 use Rattle.co_types.specs.declared.classes.FuncInfo.{FuncInfo}
@@ -12,9 +12,9 @@ use Rattle.co_core_tree.specs.Slots.{is_class}
 use Rattle.co_core_tree.specs.declared.units.CoreFunc.{CoreFunc}
 use Rattle.co_core_tree.specs.declared.units.SlotInfo.{SlotInfo}
 use Rattle.co_meaning_data.specs.declared.events.Event.TheVariants as event
-use Rattle.co_meaning_data.specs.Frames.{At, AwaitSuspend, Call, Calling, Comes, Dies, Doing, Ending, Ends, EndsObject, EndsPart, Frame, Full, Gives, Given, Goes, HasDied, Hold, Holds, IsBorn, ObjectEnds, Outcome, PartEnds, Passes, PassesMark, Scope, Temporal}
+use Rattle.co_meaning_data.specs.Frames.{At, AwaitSuspend, Calling, Comes, Dies, Ending, Ends, EndsObject, EndsPart, Frame, Full, Given, HasDied, Holds, IsBorn, ObjectEnds, Outcome, PartEnds, Passes, PassesMark, Scope, Temporal}
 use Rattle.co_meaning_data.specs.Store.{Place, add_object, coroutine_of, end_object, end_part, make_live, next_object, raw_object, type_at, whole}
-use Rattle.co_meaning_data.specs.Turn.{Local, Turned, classes, func_of, goes, happens, nowhere, passes, pushed, store, under, with_frames, with_slot, with_store}
+use Rattle.co_meaning_data.specs.Turn.{Local, Turned, classes, func_of, goes, happens, nowhere, passes, pushed, store, under, with_slot, with_store}
 
 -- ---- making [basic.life]
 

@@ -1,12 +1,11 @@
 -- The accesses to scalars. Each step makes at most one.
-use Rattle.std.specs.Prelude.{ℕ, zero, suc, Bool, true, false, if◌then◌else◌, List, [], ◌∷◌, ◌++◌, length, Option, None, Some}
+use Rattle.std.specs.Prelude.{ℕ, zero, suc, Bool, true, false, List, [], ◌∷◌, ◌++◌, length, Option, None, Some}
 use Rattle.co_base.specs.declared.kinds.Undef.TheVariants.{U7, U8, U9}
 use Rattle.co_base.specs.declared.span.Span.{Span}
-use Rattle.co_types.specs.declared.types.CoType.{CoType}
 use Rattle.co_meaning_data.specs.declared.values.Cell.{Cell}
 use Rattle.co_meaning_data.specs.declared.values.Cell.TheVariants as cell
 use Rattle.co_meaning_data.specs.declared.values.Value.{Value}
-use Rattle.co_meaning_data.specs.Frames.{At, Comes, Given, Gives, Outcome, Passes, Reads, Scalar, Writes}
+use Rattle.co_meaning_data.specs.Frames.{Comes, Given, Gives, Outcome, Reads, Scalar, Writes}
 use Rattle.co_meaning_data.specs.Store.{Place, cell_at, is_ended, set_cell, type_at, words_of}
 use Rattle.co_meaning_data.specs.Undefined.{Fault, compares_dangling, is_indeterminate, is_outside, is_same}
 use Rattle.co_meaning_data.specs.Turn.{Local, Turned, classes, given_by, gives, goes, parts_for, store, truth, unless_undefined, with_store}
@@ -89,7 +88,7 @@ compared false p expected found desired at l = goes (Writes false expected 0 (fo
 abbrev pub compare_cell : Place → Place → Value → Value → Span → Local → Option Cell → Option Turned
 compare_cell p expected wanted desired at l (Some (cell.Holds v)) =
     unless_undefined (record { kind = U9; holds = compares_dangling (store l) l.shared.coroutines v wanted } ∷ []) at l
-      (compared (is_same (store l) l.shared.coroutines v wanted) p expected v desired at l)
+    (compared (is_same (store l) l.shared.coroutines v wanted) p expected v desired at l)
 compare_cell p expected wanted desired at l (Some c) = unless_undefined (read_faults c) at l None
 compare_cell p expected wanted desired at l None = None
 

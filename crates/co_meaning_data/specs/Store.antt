@@ -1,5 +1,5 @@
 -- The objects and the blocks of storage of a run.
-use Rattle.std.specs.Prelude.{ℕ, zero, suc, ◌+◌, ◌==◌, Bool, true, false, ◌&&◌, if◌then◌else◌, List, [], ◌∷◌, ◌++◌, length, take, replicate, slice_get, slice_set, Option, None, Some}
+use Rattle.std.specs.Prelude.{ℕ, zero, suc, ◌+◌, ◌==◌, Bool, true, false, if◌then◌else◌, List, [], ◌∷◌, ◌++◌, length, take, replicate, slice_get, slice_set, Option, None, Some}
 use Rattle.co_types.specs.declared.types.CoType.{CoType}
 use Rattle.co_types.specs.declared.types.Head.{Head}
 use Rattle.co_types.specs.declared.types.Head.TheVariants as head
@@ -7,7 +7,6 @@ use Rattle.co_types.specs.declared.classes.ClassInfo.{ClassInfo}
 use Rattle.co_types.specs.declared.classes.FieldInfo.{FieldInfo}
 use Rattle.co_types.specs.Types.{head_of}
 use Rattle.co_core_tree.specs.Sizes.{class_words, fields_words, words}
-use Rattle.co_meaning_data.specs.declared.values.Value.{Value}
 use Rattle.co_meaning_data.specs.declared.values.Cell.{Cell}
 use Rattle.co_meaning_data.specs.declared.values.Cell.TheVariants as cell
 use Rattle.co_meaning_data.specs.declared.values.Lifetime.{Lifetime}

@@ -1,6 +1,5 @@
 -- What a step of an agent sees, and what it leaves.
-use Rattle.std.specs.Prelude.{ℕ, zero, suc, ◌+◌, ◌*◌, ◌/◌, Bool, true, false, if◌then◌else◌, List, [], ◌∷◌, ◌++◌, length, replicate, slice_get, slice_set, Option, None, Some, is_some, ℤ, pos}
-use Rattle.co_base.specs.declared.kinds.Num.{Num}
+use Rattle.std.specs.Prelude.{ℕ, zero, suc, Bool, true, false, if◌then◌else◌, List, [], ◌∷◌, ◌++◌, slice_get, slice_set, Option, None, Some, is_some, ℤ, pos}
 use Rattle.co_base.specs.declared.kinds.Num.TheVariants as num
 use Rattle.co_base.specs.declared.kinds.Thrown.{Thrown}
 use Rattle.co_base.specs.declared.kinds.Undef.{Undef}
@@ -13,7 +12,7 @@ use Rattle.co_types.specs.Types.{head_of}
 use Rattle.co_core_tree.specs.declared.units.CoreFunc.{CoreFunc}
 use Rattle.co_core_tree.specs.declared.units.PromisePlan.{PromisePlan}
 use Rattle.co_core_tree.specs.declared.units.UnitParts.{UnitParts}
-use Rattle.co_meaning_data.specs.Frames.{Activation, Agent, At, Comes, Doing, Frame, Given, Gives, Goes, Going, Nothing, Outcome, Parts, Passes, Scalar, Shared, Throwing}
+use Rattle.co_meaning_data.specs.Frames.{Activation, Agent, At, Comes, Doing, Frame, Given, Gives, Goes, Going, Nothing, Parts, Passes, Scalar, Shared, Throwing}
 use Rattle.co_meaning_data.specs.Store.{Place, Store}
 use Rattle.co_meaning_data.specs.Undefined.{Fault, counts}
 use Rattle.co_meaning_data.specs.declared.events.Event.{Event}

@@ -1,10 +1,10 @@
 -- The undefined acts, each as a test, and which of several counts. Also when two pointers are the same.
-use Rattle.std.specs.Prelude.{ℕ, zero, suc, ◌==◌, nat_le, Bool, true, false, not, ◌&&◌, ◌||◌, if◌then◌else◌, List, [], ◌∷◌, slice_get, Option, None, Some, is_none, ℤ, pos}
+use Rattle.std.specs.Prelude.{ℕ, zero, suc, ◌==◌, nat_le, Bool, true, false, not, ◌&&◌, ◌||◌, if◌then◌else◌, List, [], ◌∷◌, slice_get, Option, None, Some, is_none, ℤ}
 use Rattle.std.specs.Ordering.{int_eq}
 use Rattle.co_base.specs.declared.kinds.CatchOf.{CatchOf}
 use Rattle.co_base.specs.declared.kinds.CatchOf.TheVariants as catch
 use Rattle.co_base.specs.declared.kinds.Undef.{Undef}
-use Rattle.co_base.specs.declared.kinds.Undef.TheVariants.{U1, U2, U3, U4, U5, U6, U7, U8, U9, U10, U11, U12}
+use Rattle.co_base.specs.declared.kinds.Undef.TheVariants.{U4}
 use Rattle.co_types.specs.declared.types.CoType.{CoType}
 use Rattle.co_types.specs.Types.{same_num, same_type}
 use Rattle.co_meaning_data.specs.declared.values.Value.{Value}
@@ -14,7 +14,7 @@ use Rattle.co_meaning_data.specs.declared.values.Cell.TheVariants as cell
 use Rattle.co_meaning_data.specs.declared.values.Standing.{Standing}
 use Rattle.co_meaning_data.specs.declared.values.Standing.TheVariants as standing
 use Rattle.co_meaning_data.specs.Store.{Store, StoredBlock, StoredObject, block_at, is_ended, is_frame_standing, is_live_lifetime, is_nothing_standing, is_object_standing, object_at, standing_in}
-use Rattle.co_meaning_data.specs.Frames.{Condition, Coroutine, Final, Over, Running, Suspended}
+use Rattle.co_meaning_data.specs.Frames.{Condition, Coroutine, Final, Over, Suspended}
 
 -- ---- coroutines by number, from 1 on
 
