@@ -1,10 +1,10 @@
 -- The best candidate, where there is one, is held at the end of the search.
-use Rattle.std.specs.Prelude.{◌≡◌, ◌≢◌, ℕ, ◌+◌, ◌<◌, Bool, true, false, not, ◌||◌, ◌&&◌, ◌==◌, if◌then◌else◌, List, length, Option, None, Some, IsTrue, IsFalse, slice_get}
+use Rattle.std.specs.Prelude.{◌≡◌, ◌≢◌, ℕ, ◌+◌, ◌<◌, Bool, true, false, not, ◌||◌, ◌&&◌, ◌==◌, if◌then◌else◌, List, length, Option, None, Some, slice_get}
 use Rattle.std.proofs.Common.{refl, arith, below_more, subst}
 use Rattle.std.proofs.lemmas.Bool.{eqb-false, ne_eqb}
 use Rattle.co_types.specs.declared.classes.FuncInfo.{FuncInfo}
 use Rattle.co_types.specs.declared.overloads.Arg.{Arg}
-use Rattle.co_types.specs.Choosing.{any_better, beats, better_at, better_of, kept, viable_at, BeatsAll, IsBest, IsHeld}
+use Rattle.co_types.specs.Choosing.{any_better, better_at, better_of, kept, viable_at, BeatsAll, IsBest, IsHeld}
 
 pub clash : (b : Bool) → b ≡ true → b ≡ false → ⊥
 clash b e f = cc

@@ -1,5 +1,5 @@
 -- How the specials of a class are found one step at a time.
-use Rattle.std.specs.Prelude.{◌≡◌, ◌≢◌, ℕ, zero, suc, ◌-◌, ◌≤◌, length, take, drop, Bool, true, false, ◌&&◌, List, [], ◌∷◌, Option, None, Some, slice_get}
+use Rattle.std.specs.Prelude.{◌≡◌, ◌≢◌, ℕ, zero, suc, ◌-◌, ◌≤◌, length, take, drop, Bool, true, false, ◌&&◌, List, [], ◌∷◌, Some, slice_get}
 use Rattle.std.proofs.Common.{refl, arith, ap, sym, get_or, ◌∙◌}
 use Rattle.std.proofs.Math.Seq.{take-length}
 use Rattle.co_base.specs.declared.ids.ClassId.{ClassId}

@@ -7,9 +7,8 @@ use Rattle.co_types.specs.declared.types.Head.TheVariants as head
 use Rattle.co_types.specs.declared.classes.ClassInfo.{ClassInfo}
 use Rattle.co_types.specs.declared.classes.FieldInfo.{FieldInfo}
 use Rattle.co_types.specs.declared.specials.Specials.{Specials}
-use Rattle.co_types.specs.declared.specials.Allowed.{Allowed}
 use Rattle.co_types.specs.Types.{head_of}
-use Rattle.co_types.specs.Special.{all_allow, all_allowed, both, field_allows, head_allows, in_class, special, special_within, with_fields, InFields, IsNested, OfClass, OfFields}
+use Rattle.co_types.specs.Special.{all_allow, both, field_allows, head_allows, in_class, special, special_within, with_fields, InFields, IsNested, OfClass, OfFields}
 
 one_field : (f g : ClassId → Specials) (P : ClassId → Type 0) → ((c : ClassId) → P c → f c ≡ g c) → (set : Bool) (h : Head) → OfClass P h → head_allows f set h ≡ head_allows g set h
 one_field f g P same set (head.Class c) p = ap (λ s. head_allows (λ d. s) set (head.Class c)) (same c p)

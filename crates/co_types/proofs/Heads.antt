@@ -1,9 +1,8 @@
 -- Two types by their heads.
-use Rattle.std.specs.Prelude.{◌≡◌, Bool, true, false, ◌&&◌, Option, None}
+use Rattle.std.specs.Prelude.{◌≡◌, true, false, ◌&&◌, None}
 use Rattle.std.proofs.Common.{refl, ap}
 use Rattle.co_types.specs.declared.types.CoType.{CoType, end_of-CoType, more_of-CoType}
 use Rattle.co_types.specs.declared.types.CoType.TheVariants as type
-use Rattle.co_types.specs.declared.types.Head.TheVariants as head
 use Rattle.co_types.specs.Types.{head_of, on_target, same_head, same_type, target_of}
 
 -- types whose heads differ are two

@@ -1,5 +1,8 @@
 pub mod Opening
 pub mod Heads
+pub mod Noted
+pub mod Equal
+pub mod Entries
 pub mod Counted
 pub mod Best
 pub mod Deeper

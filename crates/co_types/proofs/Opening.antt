@@ -1,5 +1,5 @@
 -- What the definitions on types come to at a type that points or refers to another.
-use Rattle.std.specs.Prelude.{◌≡◌, Bool, ◌&&◌, Option, Some}
+use Rattle.std.specs.Prelude.{◌≡◌, ◌&&◌, Some}
 use Rattle.std.proofs.Common.{refl}
 use Rattle.co_types.specs.declared.types.CoType.{CoType}
 use Rattle.co_types.specs.declared.types.CoType.TheVariants as type

@@ -12,7 +12,7 @@ use Rattle.co_types.specs.declared.overloads.Rank.{Rank}
 use Rattle.co_types.specs.declared.overloads.Rank.TheVariants.{Exact, Promotion, Conversion, Truth, Library}
 use Rattle.co_types.specs.declared.overloads.Choice.{Choice}
 use Rattle.co_types.specs.declared.overloads.Choice.TheVariants as choice
-use Rattle.co_types.specs.Types.{head_of, same_head, same_type, target_of}
+use Rattle.co_types.specs.Types.{head_of, same_type, target_of}
 
 -- ---- conversions of one argument
 

@@ -1,5 +1,5 @@
 -- Classes, and the members that are found in them by name.
-use Rattle.std.specs.Prelude.{ℕ, ◌+◌, ◌^◌, ◌<◌, Bool, true, false, ◌||◌, ◌==◌, ◌&&◌, if◌then◌else◌, List, [], ◌∷◌, length, slice_get, Option, None, Some, bytes_eq}
+use Rattle.std.specs.Prelude.{ℕ, ◌+◌, ◌^◌, ◌<◌, Bool, false, ◌||◌, ◌==◌, ◌&&◌, if◌then◌else◌, List, [], ◌∷◌, length, slice_get, Option, None, Some, bytes_eq}
 use Rattle.co_base.specs.declared.ids.ClassId.{ClassId}
 use Rattle.co_types.specs.declared.classes.ClassInfo.{ClassInfo}
 use Rattle.co_types.specs.declared.classes.FieldInfo.{FieldInfo}
@@ -10,6 +10,11 @@ use Rattle.co_types.specs.declared.members.Found.TheVariants as found
 -- the members have numbers of 32 bits
 abbrev pub IsCounted : ClassInfo → Type 0
 IsCounted info = (length info.fields < 2 ^ 32) × (length info.funcs < 2 ^ 32)
+
+-- the first of two members, where there is one
+abbrev pub first_of : Option Found → Option Found → Option Found
+first_of None next = next
+first_of (Some member) next = Some member
 
 -- the first field of this name, where the fields are numbered from `index` on
 abbrev pub field_named : ℕ → List FieldInfo → List ℕ → Option ℕ
@@ -26,17 +31,25 @@ abbrev pub is_destructor_name : List ℕ → List ℕ → Bool
 is_destructor_name class [] = false
 is_destructor_name class (first ∷ rest) = (first == 126) && bytes_eq rest class
 
-abbrev pub as_funcs : Option ℕ → Found
-as_funcs None = found.None
-as_funcs (Some func) = found.Funcs func
+abbrev pub as_field : Option ℕ → Option Found
+as_field None = None
+as_field (Some field) = Some (found.Field field)
 
-abbrev pub field_or_funcs : Option ℕ → Option ℕ → Found
-field_or_funcs (Some field) func = found.Field field
-field_or_funcs None func = as_funcs func
+abbrev pub as_funcs : Option ℕ → Option Found
+as_funcs None = None
+as_funcs (Some func) = Some (found.Funcs func)
 
--- the member of this name; constructors and destructors have no name to be found by
+-- the member of this name; a field comes before the functions
+abbrev pub named_in : ClassInfo → List ℕ → Option Found
+named_in info name = first_of (as_field (field_named 0 info.fields name)) (as_funcs (func_named 0 info.funcs name))
+
+abbrev pub or_none : Option Found → Found
+or_none None = found.None
+or_none (Some member) = member
+
+-- the member that is found; constructors and destructors have no name to be found by
 abbrev pub found_in : ClassInfo → List ℕ → Found
-found_in info name = if bytes_eq name info.name || is_destructor_name info.name name then found.None else field_or_funcs (field_named 0 info.fields name) (func_named 0 info.funcs name)
+found_in info name = if bytes_eq name info.name || is_destructor_name info.name name then found.None else or_none (named_in info name)
 
 abbrev pub found_among : Option ClassInfo → List ℕ → Found
 found_among None name = found.None

@@ -1,12 +1,14 @@
 -- What the definitions of this crate come to.
-use Rattle.std.specs.Prelude.{◌≡◌, ℕ, List, length, slice_get, Some}
+use Rattle.std.specs.Prelude.{◌≡◌, List, length, slice_get, Some, IsTrue}
 use Rattle.co_base.specs.declared.ids.ClassId.{ClassId}
 use Rattle.co_types.specs.declared.classes.ClassInfo.{ClassInfo}
 use Rattle.co_types.specs.declared.classes.FuncInfo.{FuncInfo}
 use Rattle.co_types.specs.declared.overloads.Arg.{Arg}
 use Rattle.co_types.specs.declared.overloads.Choice.{Choice}
+use Rattle.co_types.specs.declared.types.CoType.{CoType}
 use Rattle.co_types.specs.Choosing.{IsChoice}
 use Rattle.co_types.specs.Special.{all_allow, special, with_fields, IsNested}
+use Rattle.co_types.specs.Types.{same_type}
 
 -- A call has one choice.
 abbrev pub ChoosesOnce : Type 0
@@ -17,3 +19,7 @@ ChoosesOnce = (candidates : List FuncInfo) (args : List Arg) (x y : Choice) → 
 abbrev pub SpecialRecurs : Type 0
 SpecialRecurs = (classes : List ClassInfo) (class : ClassId) (info : ClassInfo) → IsNested (length classes) classes class →
     slice_get classes class.0 ≡ Some info → special classes class ≡ with_fields class info (all_allow (λ c. special classes c) info.fields)
+
+-- Two types are one exactly where they are equal.
+abbrev pub SameIsEqual : Type 0
+SameIsEqual = (a b : CoType) → (IsTrue (same_type a b) → a ≡ b) × (a ≡ b → IsTrue (same_type a b))

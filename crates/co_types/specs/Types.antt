@@ -1,10 +1,10 @@
 -- Types, and when two are one.
-use Rattle.std.specs.Prelude.{ℕ, Bool, true, false, ◌&&◌, ◌==◌, Option, None, Some}
+use Rattle.std.specs.Prelude.{Bool, true, false, ◌&&◌, ◌==◌, Option, None, Some}
 use Rattle.co_base.specs.declared.kinds.Num.{Num}
 use Rattle.co_base.specs.declared.kinds.Num.TheVariants as num
 use Rattle.co_base.specs.declared.kinds.AtomicKind.{AtomicKind}
 use Rattle.co_base.specs.declared.kinds.AtomicKind.TheVariants as atomic
-use Rattle.co_types.specs.declared.types.CoType.{CoType, Row_of-CoType, end_of-CoType, more_of-CoType}
+use Rattle.co_types.specs.declared.types.CoType.{CoType, end_of-CoType, more_of-CoType}
 use Rattle.co_types.specs.declared.types.CoType.TheVariants as type
 use Rattle.co_types.specs.declared.types.Head.{Head}
 use Rattle.co_types.specs.declared.types.Head.TheVariants as head

@@ -4,6 +4,7 @@
 mod classes;
 mod laws;
 mod members;
+mod names;
 mod overloads;
 mod specials;
 mod table;
@@ -12,7 +13,7 @@ mod tests;
 mod types;
 
 pub use classes::{AliasInfo, ClassInfo, FieldInfo, FuncInfo};
-pub use laws::{chooses_once, special_recurs};
+pub use laws::{chooses_once, same_is_equal, special_recurs};
 pub use members::{Found, find_member};
 pub use overloads::{Arg, ArgKind, Choice, Rank, choose, conversion};
 pub use specials::{Specials, special};

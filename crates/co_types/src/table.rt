@@ -1,23 +1,32 @@
-ghost use Rattle.std.specs.Prelude.{◌≡◌, ◌<◌, [], ◌∷◌, ◌++◌, length, slice_get, Some, IfSome, IfOk, OnOk, OnErr};
-ghost use Rattle.std.specs.Option.{option_copied};
+ghost use Rattle.std.specs.Prelude.{◌≡◌, ◌<◌, ◌≤◌, ◌+◌, [], ◌∷◌, ◌++◌, All, length, slice_get, Some, IfSome, IfOk, OnOk, OnErr};
+ghost use Rattle.std.specs.Option.{option_copied, option_map};
 ghost use Rattle.co_types.specs.Classes.{IsCounted};
+ghost use Rattle.co_types.specs.Names.{infos, IsEntry};
 
 use crate::classes::ClassInfo;
+use crate::names::{Names, names_of};
 use co_base::{ClassId, NoMemory};
-use sqlite_items::Items;
 use std::alloc::Global;
 use std::marker::Model;
+
+/// A class of a table, and its members by their names.
+#[derive(Debug, Drop)]
+pub struct Entry {
+    pub(crate) info: ClassInfo,
+    pub(crate) names: Names,
+}
 
 /// The classes of a program, each by its number. Contracts see the list of their infos.
 #[derive(Debug, Drop)]
 pub struct ClassTable {
-    classes: Items<ClassInfo>,
+    alloc: Global,
+    entries: Vec<Entry>,
 }
 
 impl Model for ClassTable {
     ghost use Rattle.std.specs.Prelude.{List, All, length, ◌≤◌};
     ghost use Rattle.co_types.specs.declared.classes.ClassInfo.{ClassInfo};
-    ghost use Rattle.co_types.specs.Classes.{IsCounted};
+    ghost use Rattle.co_types.specs.Names.{infos, IsEntry};
     ghost use Rattle.co_types.specs.contracts.types.CoType as of_type;
     ghost use Rattle.std.specs.Coded.{codes};
 
@@ -25,9 +34,9 @@ impl Model for ClassTable {
 
     ghost coded = { Prim.hlevel (codes, of_type.the_row.coded) };
 
-    ghost view = { λ t. t.classes };
+    ghost view = { λ t. infos t.entries.items };
 
-    ghost invariant = { λ t. (length t.classes ≤ 1024) × All IsCounted t.classes };
+    ghost invariant = { λ t. (length t.entries.items ≤ 1024) × All IsEntry t.entries.items };
 }
 
 impl ClassTable {
@@ -36,7 +45,8 @@ impl ClassTable {
         ensures { result ≡ [] }
     {
         ClassTable {
-            classes: Items::new(alloc),
+            alloc,
+            entries: Vec::new(alloc),
         }
     }
 
@@ -49,7 +59,8 @@ impl ClassTable {
         ensures err { OnErr result (self.new ≡ self.old) }
     {
         let id = self.len();
-        self.classes.push(info)?;
+        let names = names_of(self.alloc, &info)?;
+        self.entries.push(Entry { info, names })?;
         Ok(ClassId(id))
     }
 
@@ -57,7 +68,7 @@ impl ClassTable {
     pub fn len(&self) -> u32
         ensures { result ≡ length self.now }
     {
-        self.classes.len() as u32
+        self.entries.len() as u32
     }
 
     /// The info of a class that is held.
@@ -65,15 +76,25 @@ impl ClassTable {
         requires { class.0 < length self.now }
         ensures { slice_get self.now class.0 ≡ Some result.now }
     {
-        &self.classes.as_slice()[class.0 as usize]
+        &self.entries.as_slice()[class.0 as usize].info
+    }
+
+    pub(crate) fn entry(&self, class: ClassId) -> Option<&Entry>
+        ensures value { option_map (λ e. e.now.info) result ≡ slice_get self.now class.0 }
+        ensures entry { IfSome result (λ e. IsEntry e.now) }
+    {
+        match self.entries.as_slice().get(class.0 as usize) {
+            Some(entry) => Some(entry),
+            None => None,
+        }
     }
 
     pub(crate) fn get(&self, class: ClassId) -> Option<&ClassInfo>
         ensures value { option_copied result ≡ slice_get self.now class.0 }
         ensures counted { IfSome result (λ info. IsCounted info.now) }
     {
-        match self.classes.get(class.0 as usize) {
-            Some(info) => Some(info),
+        match self.entry(class) {
+            Some(entry) => Some(&entry.info),
             None => None,
         }
     }
@@ -82,17 +103,19 @@ impl ClassTable {
     pub fn copy(&self, alloc: Global) -> Result<ClassTable, NoMemory>
         ensures { IfOk result (λ t. t ≡ self.now) }
     {
-        let classes = copy_classes(alloc, self.classes.as_slice())?;
-        Ok(ClassTable { classes })
+        let mut copied = ClassTable::new(alloc);
+        copy_entries(alloc, &mut copied, self.entries.as_slice())?;
+        Ok(copied)
     }
 }
 
-fn copy_classes(alloc: Global, classes: &[ClassInfo]) -> Result<Items<ClassInfo>, NoMemory>
-    ensures { IfOk result (λ copied. copied ≡ classes.now) }
+fn copy_entries(alloc: Global, copied: &mut ClassTable, entries: &[Entry]) -> Result<(), NoMemory>
+    requires room { length copied.old + length entries.now ≤ 1024 }
+    requires entries { All IsEntry entries.now }
+    ensures { OnOk result (copied.new ≡ copied.old ++ infos entries.now) }
 {
-    let mut copied = Items::new(alloc);
-    for item in classes {
-        copied.push(item.copy(alloc)?)?;
+    for entry in entries {
+        copied.add(entry.info.copy(alloc)?)?;
     }
-    Ok(copied)
+    Ok(())
 }

@@ -1,6 +1,7 @@
 use crate::{
-    Arg, ArgKind, Choice, ClassInfo, ClassTable, CoType, FieldInfo, Found, FuncInfo, Specials,
-    choose, find_member, special,
+    Arg, ArgKind, Choice, ClassInfo, ClassTable, CoType, FieldInfo, Found, FuncInfo, Head, Rank,
+    Specials, choose, chooses_once, conversion, find_member, is_same, same_is_equal, special,
+    special_recurs,
 };
 use co_base::{AtomicKind, ClassId, FuncId, NoMemory, Num, Span, Text};
 use sqlite_items::{Boxed, Items};
@@ -66,6 +67,28 @@ const CLASSES: [(&[u8], &[u8], &[u8]); 12] = [
     (b"6,", b"D", b"01110"),
     (b"", b"to", b"01010"),
     (b"4,", b"", b"00111"),
+];
+
+/// Types in the spelling of `CHOICES`, no two of which are one.
+const TYPES: [&[u8]; 18] = [
+    b"v", b"b", b"i", b"l", b"z", b"C", b"1", b"a", b"h", b"H", b"e", b"n", b"i*", b"i&", b"i?",
+    b"i%", b"i**", b"C*",
+];
+
+/// An argument, a parameter, and the rank with which the one converts to the other.
+const CONVERSIONS: [(&[u8], &[u8], Option<Rank>); 12] = [
+    (b"iP", b"i", Some(Rank::Exact)),
+    (b"bP", b"i", Some(Rank::Promotion)),
+    (b"bP", b"l", Some(Rank::Conversion)),
+    (b"i*P", b"v*", Some(Rank::Conversion)),
+    (b"nP", b"i*", Some(Rank::Conversion)),
+    (b"i*L", b"b", Some(Rank::Truth)),
+    (b"hP", b"H", Some(Rank::Library)),
+    (b"nP", b"e", Some(Rank::Library)),
+    (b"v*P", b"i*", None),
+    (b"nP", b"b", None),
+    (b"CP", b"C&", None),
+    (b"lP", b"i?", None),
 ];
 
 const NAMES: [&[u8]; 5] = [b"T", b"f", b"g", b"f", b"~T"];
@@ -282,5 +305,73 @@ fn members_are_found_by_name(rt: HostRuntime) -> Result<(), Fail> {
     assert!(rt; find_member(&table, id, b"~T") == Found::None);
     assert!(rt; find_member(&table, id, b"y") == Found::None);
     assert!(rt; find_member(&table, ClassId(1), b"x") == Found::None);
+    Ok(())
+}
+
+fn spelled(alloc: Global, text: &[u8]) -> Result<CoType, NoMemory> {
+    let mut of = CoType::Void;
+    for byte in text {
+        of = grown(alloc, of, *byte)?;
+    }
+    Ok(of)
+}
+
+#[test]
+fn types_are_told_apart(rt: HostRuntime) -> Result<(), Fail> {
+    for (at, text) in TYPES.iter().enumerate() {
+        let one = spelled(rt.alloc(), text)?;
+        assert!(rt; is_same(&one, &one.copy(rt.alloc())?));
+        for (other_at, other) in TYPES.iter().enumerate() {
+            let other = spelled(rt.alloc(), other)?;
+            assert!(rt; is_same(&one, &other) == (at == other_at));
+        }
+    }
+    Ok(())
+}
+
+#[test]
+fn heads_and_targets(rt: HostRuntime) -> Result<(), Fail> {
+    let of = spelled(rt.alloc(), b"C*?")?;
+    assert!(rt; of.head() == Head::ConstRef);
+    let to = of.target();
+    assert!(rt; to.is_some_and(|t| t.head() == Head::Pointer));
+    let class = spelled(rt.alloc(), b"C")?;
+    assert!(rt; class.head() == Head::Class(ClassId(0)));
+    assert!(rt; class.target().is_none());
+    Ok(())
+}
+
+#[test]
+fn arguments_convert_with_their_ranks(rt: HostRuntime) -> Result<(), Fail> {
+    for (arg, param, rank) in CONVERSIONS {
+        let args = arguments(rt.alloc(), arg)?;
+        let param = spelled(rt.alloc(), param)?;
+        let first = args.as_slice().first();
+        assert!(rt; first.is_some_and(|a| conversion(a, &param) == rank));
+    }
+    Ok(())
+}
+
+#[test]
+fn classes_are_held_in_their_order(rt: HostRuntime) -> Result<(), Fail> {
+    let mut table = ClassTable::new(rt.alloc());
+    for of in [b"i,".as_slice(), b"i,l,", b""] {
+        let info = class_of(rt.alloc(), of, Items::new(rt.alloc()))?;
+        assert!(rt; info.fields.len() < 100);
+        assert!(rt; info.funcs.len() == 0);
+        assert!(rt; table.len() < 1024);
+        table.add(info)?;
+    }
+    assert!(rt; table.len() == 3);
+    assert!(rt; table.info(ClassId(1)).fields.len() == 2);
+    assert!(rt; table.info(ClassId(2)).fields.len() == 0);
+    Ok(())
+}
+
+#[test]
+fn laws_stand(_rt: HostRuntime) -> Result<(), Fail> {
+    chooses_once();
+    same_is_equal();
+    special_recurs();
     Ok(())
 }
