@@ -63,12 +63,9 @@ into_scope x [] = []
 into_scope x (Scope alive rest ∷ fs) = Scope (x ∷ alive) rest ∷ fs
 into_scope x (f ∷ fs) = f ∷ into_scope x fs
 
-abbrev pub made_temporary : ℕ → ℕ → Temporal → Temporal
-made_temporary slot x t = if t.slot == slot then record t { object = Some x } else t
-
 abbrev pub made_temporaries : ℕ → ℕ → List Temporal → List Temporal
 made_temporaries slot x [] = []
-made_temporaries slot x (t ∷ ts) = made_temporary slot x t ∷ made_temporaries slot x ts
+made_temporaries slot x (t ∷ ts) = if t.slot == slot then record t { object = Some x } ∷ ts else t ∷ made_temporaries slot x ts
 
 -- The temporary stands in its full-expression from now on, and its mark is set. One that is made for `await_suspend` is the
 -- agent's own [class.temporary].
