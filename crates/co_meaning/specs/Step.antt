@@ -187,7 +187,7 @@ leave f going l = leaves going l
 -- ---- a step
 
 abbrev pub come : List Frame → Outcome → Local → Option Turned
-come [] outcome l = last_frame outcome l
+come [] outcome l = last_frame outcome (with_frames [] l)
 come (f ∷ fs) (Gives g) l = receive f g (with_frames fs l)
 come (f ∷ fs) Passes l = pass f (with_frames fs l)
 come (f ∷ fs) (Goes going) l = leave f going (with_frames fs l)

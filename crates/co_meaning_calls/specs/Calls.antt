@@ -242,7 +242,7 @@ returns g l = returns_to l.below g l
 -- An exception goes on where the newest activation was called; out of `main` and of a resume from the posted handles none may go
 -- [except.terminate].
 abbrev pub throws_to : List Activation → Going → Local → Option Turned
-throws_to [] (Throwing v) l = is_uncaught v l
+throws_to [] (Throwing v) l = is_uncaught v (record l { below = [] })
 throws_to (a ∷ rest) (Throwing v) l = leaves (Throwing v) (record l { top = a; below = rest })
 throws_to below going l = None
 

@@ -1,6 +1,6 @@
 -- Where the birth and the death of an object are still to come.
-use Rattle.std.specs.Prelude.{ℕ, zero, suc, ◌+◌, ◌≤◌, ◌==◌, nat_lt, Bool, true, false, if◌then◌else◌, List, [], ◌∷◌, length, Option, None, Some}
-use Rattle.co_meaning_data.specs.Frames.{Activation, Agent, Answers, ArgumentMade, AwaitSuspend, Call, Called, Calling, Condition, Config, Coroutine, Declares, Dies, Doing, Ending, Ends, EndsObject, EndsPart, Final, Frame, Full, Function, HasDied, Hold, Holds, IsBorn, ObjectEnds, Opens, Over, PassesMark, RampMade, Running, Scope, Shared, Suspended, TempMade, Temporal}
+use Rattle.std.specs.Prelude.{ℕ, ◌+◌, ◌≤◌, ◌==◌, nat_lt, if◌then◌else◌, List, [], ◌∷◌, length, Option, None, Some}
+use Rattle.co_meaning_data.specs.Frames.{Activation, Agent, Answers, ArgumentMade, AwaitSuspend, Called, Calling, Condition, Config, Coroutine, Declares, Dies, Doing, Ending, Ends, EndsObject, EndsPart, Final, Frame, Full, Function, HasDied, Holds, IsBorn, ObjectEnds, Opens, Over, PassesMark, RampMade, Running, Scope, Shared, Suspended, TempMade, Temporal}
 use Rattle.co_meaning_data.specs.Store.{Store}
 use Rattle.co_meaning_data.specs.Turn.{Local, Turned}
 use Rattle.co_meaning_data.specs.declared.events.Event.{Event}
@@ -71,6 +71,10 @@ module _ (x birth death : ℕ) where
   condition_weighs (Final point serial rest) = frames_weigh rest.frames
   condition_weighs Over = 0
 
+  abbrev pub option_weighs : Option Coroutine → ℕ
+  option_weighs None = 0
+  option_weighs (Some c) = condition_weighs c.condition
+
   abbrev pub coroutines_weigh : List Coroutine → ℕ
   coroutines_weigh [] = 0
   coroutines_weigh (c ∷ cs) = condition_weighs c.condition + coroutines_weigh cs
@@ -88,15 +92,25 @@ module _ (x birth death : ℕ) where
   events_weigh (event.Died c y ∷ es) = weighs y death + events_weigh es
   events_weigh (e ∷ es) = events_weigh es
 
+  -- all but the activations, and all but the frames of the newest one
+  abbrev pub common_weighs : Local → ℕ
+  common_weighs l = shared_weighs l.shared + events_weigh l.seen
+
+  abbrev pub rest_weighs : Local → ℕ
+  rest_weighs l = activations_weigh l.below + common_weighs l
+
   abbrev pub local_weighs : Local → ℕ
-  local_weighs l = frames_weigh l.top.frames + (activations_weigh l.below + (shared_weighs l.shared + events_weigh l.seen))
+  local_weighs l = frames_weigh l.top.frames + rest_weighs l
 
   abbrev pub turned_weighs : Turned → ℕ
   turned_weighs t = doing_weighs t.agent.doing + (activations_weigh t.agent.activations + (shared_weighs t.shared + events_weigh t.seen))
 
+  abbrev pub agent_weighs : Agent → ℕ
+  agent_weighs a = doing_weighs a.doing + activations_weigh a.activations
+
   abbrev pub agents_weigh : List Agent → ℕ
   agents_weigh [] = 0
-  agents_weigh (a ∷ as_) = doing_weighs a.doing + (activations_weigh a.activations + agents_weigh as_)
+  agents_weigh (a ∷ rest) = agent_weighs a + agents_weigh rest
 
   abbrev pub config_weighs : Config → ℕ
   config_weighs c = agents_weigh c.agents + (shared_weighs c.shared + events_weigh c.events)
