@@ -1,0 +1,2 @@
+//! Objects, calls of functions and coroutines: how each begins and ends, step by step.
+#![tactic(auto)]
