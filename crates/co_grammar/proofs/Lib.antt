@@ -1,0 +1,4 @@
+mod Follow
+mod Numbers
+mod Sets
+mod Tests
