@@ -95,7 +95,7 @@ unfoldable pub follow : Nonterminal → Set
 follow nonterminal.ResultType = among (numbers_of (pattern.Name ∷ (pattern.Keyword word.Operator) ∷ []))
 follow nonterminal.Parameters = among (numbers_of ((pattern.Punctuator mark.CloseParen) ∷ []))
 follow nonterminal.NextParameter = among (numbers_of ((pattern.Punctuator mark.CloseParen) ∷ (pattern.Punctuator mark.Comma) ∷ []))
-follow nonterminal.Type = among (numbers_of ((pattern.Punctuator mark.CloseParen) ∷ (pattern.Punctuator mark.Comma) ∷ (pattern.Punctuator mark.Semicolon) ∷ (pattern.Punctuator mark.Greater) ∷ pattern.Name ∷ []))
+follow nonterminal.TypeId = among (numbers_of ((pattern.Punctuator mark.CloseParen) ∷ (pattern.Punctuator mark.Comma) ∷ (pattern.Punctuator mark.Semicolon) ∷ (pattern.Punctuator mark.Greater) ∷ pattern.Name ∷ []))
 follow nonterminal.Base = among (numbers_of ((pattern.Punctuator mark.OpenParen) ∷ (pattern.Punctuator mark.CloseParen) ∷ (pattern.Punctuator mark.Star) ∷ (pattern.Punctuator mark.Comma) ∷ (pattern.Punctuator mark.Colon) ∷ (pattern.Punctuator mark.Semicolon) ∷ (pattern.Punctuator mark.Greater) ∷ (pattern.Punctuator mark.Question) ∷ pattern.Assignment ∷ pattern.BinaryOperator ∷ pattern.Name ∷ pattern.ReferenceMark ∷ (pattern.Keyword word.Const) ∷ (pattern.Keyword word.Operator) ∷ (pattern.Punctuator mark.OpenBrace) ∷ (pattern.Punctuator mark.CloseBrace) ∷ []))
 follow nonterminal.InnerClass = among (numbers_of ((pattern.Punctuator mark.OpenParen) ∷ (pattern.Punctuator mark.CloseParen) ∷ (pattern.Punctuator mark.Star) ∷ (pattern.Punctuator mark.Comma) ∷ (pattern.Punctuator mark.Colon) ∷ (pattern.Punctuator mark.Semicolon) ∷ (pattern.Punctuator mark.Greater) ∷ (pattern.Punctuator mark.Question) ∷ pattern.Assignment ∷ pattern.BinaryOperator ∷ pattern.Name ∷ pattern.ReferenceMark ∷ (pattern.Keyword word.Const) ∷ (pattern.Keyword word.Operator) ∷ (pattern.Punctuator mark.OpenBrace) ∷ (pattern.Punctuator mark.CloseBrace) ∷ []))
 follow nonterminal.ClassPath = among (numbers_of ((pattern.Punctuator mark.OpenParen) ∷ (pattern.Punctuator mark.CloseParen) ∷ (pattern.Punctuator mark.Star) ∷ (pattern.Punctuator mark.Comma) ∷ (pattern.Punctuator mark.Colon) ∷ (pattern.Punctuator mark.Semicolon) ∷ (pattern.Punctuator mark.Greater) ∷ (pattern.Punctuator mark.Question) ∷ pattern.Assignment ∷ pattern.BinaryOperator ∷ pattern.Name ∷ pattern.ReferenceMark ∷ (pattern.Keyword word.Const) ∷ (pattern.Keyword word.Operator) ∷ (pattern.Punctuator mark.OpenBrace) ∷ (pattern.Punctuator mark.CloseBrace) ∷ []))

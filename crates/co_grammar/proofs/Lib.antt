@@ -1,4 +1,6 @@
 mod Follow
 mod Numbers
+mod Picks
+mod Places
 mod Sets
 mod Tests

@@ -127,7 +127,7 @@ pub enum Nonterminal {
     Parameters,
     NextParameter,
     ParameterName,
-    Type,
+    TypeId,
     Base,
     InnerClass,
     ClassPath,

@@ -100,7 +100,7 @@ macro_rules! rules {
 pub const RULES: [(Nonterminal, Pattern, &[Symbol]); 298] = rules! {
     Item {
         "class key" => ["name" ClassRest],
-        "using" => ["name" "=" Type ";"],
+        "using" => ["name" "=" TypeId ";"],
         "function specifier" => [{Specifier} ResultType FunctionName],
         "auto" => [FunctionName],
         "const" => [Base [TypeRest] GlobalName],
@@ -154,7 +154,7 @@ pub const RULES: [(Nonterminal, Pattern, &[Symbol]); 298] = rules! {
     Member {
         "access specifier" => [":"],
         "class key" => ["name" ClassRest],
-        "using" => ["name" "=" Type ";"],
+        "using" => ["name" "=" TypeId ";"],
         "explicit" => ["name" ConstructorRest],
         "~" => ["name" NoParameters [Noexcept] DestructorBody],
         "function specifier" => [{Specifier} ResultType MethodName],
@@ -228,12 +228,12 @@ pub const RULES: [(Nonterminal, Pattern, &[Symbol]); 298] = rules! {
         "other name" => ["::" ClassPath [TypeRest] [ParameterName] {NextParameter}],
     }
     NextParameter {
-        "," => [Type [ParameterName]],
+        "," => [TypeId [ParameterName]],
     }
     ParameterName {
         "name" => [],
     }
-    Type {
+    TypeId {
         "const" => [Base [TypeRest]],
         "built-in type" => [[TypeRest]],
         "std" => ["::" LibraryType [TypeRest]],
@@ -298,7 +298,7 @@ pub const RULES: [(Nonterminal, Pattern, &[Symbol]); 298] = rules! {
         "::" => [GlobalScope [Operators] [ExpressionRest] ";"],
         "(" => [Expression ")" Close [Postfix] [Operators] [ExpressionRest] ";"],
         "corun" => ["::" RunName [Postfix] [Operators] [ExpressionRest] ";"],
-        "static_cast" => ["<" Type ">" Condition [Postfix] [Operators] [ExpressionRest] ";"],
+        "static_cast" => ["<" TypeId ">" Condition [Postfix] [Operators] [ExpressionRest] ";"],
         "literal" => [[Postfix] [Operators] [ExpressionRest] ";"],
         "const" => [Base [TypeRest] "name" [LocalRest] ";"],
         "auto" => [[Reference] "name" [LocalRest] ";"],
@@ -326,7 +326,7 @@ pub const RULES: [(Nonterminal, Pattern, &[Symbol]); 298] = rules! {
         "::" => [GlobalScope [Operators] [ExpressionRest] ";"],
         "(" => [Expression ")" Close [Postfix] [Operators] [ExpressionRest] ";"],
         "corun" => ["::" RunName [Postfix] [Operators] [ExpressionRest] ";"],
-        "static_cast" => ["<" Type ">" Condition [Postfix] [Operators] [ExpressionRest] ";"],
+        "static_cast" => ["<" TypeId ">" Condition [Postfix] [Operators] [ExpressionRest] ";"],
         "literal" => [[Postfix] [Operators] [ExpressionRest] ";"],
         "const" => [Base [TypeRest] "name" [LocalRest] ";"],
         "auto" => [[Reference] "name" [LocalRest] ";"],
@@ -407,7 +407,7 @@ pub const RULES: [(Nonterminal, Pattern, &[Symbol]); 298] = rules! {
         "::" => [GlobalScope [Operators] [ExpressionRest]],
         "(" => [Expression ")" Close [Postfix] [Operators] [ExpressionRest]],
         "corun" => ["::" RunName [Postfix] [Operators] [ExpressionRest]],
-        "static_cast" => ["<" Type ">" Condition [Postfix] [Operators] [ExpressionRest]],
+        "static_cast" => ["<" TypeId ">" Condition [Postfix] [Operators] [ExpressionRest]],
         "literal" => [[Postfix] [Operators] [ExpressionRest]],
         "built-in type" => [Built [Postfix] [Operators] [ExpressionRest]],
         "std" => ["::" LibraryOperand [Postfix] [Operators] [ExpressionRest]],
@@ -424,7 +424,7 @@ pub const RULES: [(Nonterminal, Pattern, &[Symbol]); 298] = rules! {
         "::" => [GlobalScope [Operators] [ExpressionRest]],
         "(" => [Expression ")" Close [Postfix] [Operators] [ExpressionRest]],
         "corun" => ["::" RunName [Postfix] [Operators] [ExpressionRest]],
-        "static_cast" => ["<" Type ">" Condition [Postfix] [Operators] [ExpressionRest]],
+        "static_cast" => ["<" TypeId ">" Condition [Postfix] [Operators] [ExpressionRest]],
         "literal" => [[Postfix] [Operators] [ExpressionRest]],
         "built-in type" => [Built [Postfix] [Operators] [ExpressionRest]],
         "std" => ["::" LibraryOperand [Postfix] [Operators] [ExpressionRest]],
@@ -440,7 +440,7 @@ pub const RULES: [(Nonterminal, Pattern, &[Symbol]); 298] = rules! {
         "::" => [GlobalScope [Operators] [ExpressionRest] {NextArgument}],
         "(" => [Expression ")" Close [Postfix] [Operators] [ExpressionRest] {NextArgument}],
         "corun" => ["::" RunName [Postfix] [Operators] [ExpressionRest] {NextArgument}],
-        "static_cast" => ["<" Type ">" Condition [Postfix] [Operators] [ExpressionRest] {NextArgument}],
+        "static_cast" => ["<" TypeId ">" Condition [Postfix] [Operators] [ExpressionRest] {NextArgument}],
         "literal" => [[Postfix] [Operators] [ExpressionRest] {NextArgument}],
         "built-in type" => [Built [Postfix] [Operators] [ExpressionRest] {NextArgument}],
         "std" => ["::" LibraryOperand [Postfix] [Operators] [ExpressionRest] {NextArgument}],
@@ -459,7 +459,7 @@ pub const RULES: [(Nonterminal, Pattern, &[Symbol]); 298] = rules! {
         "::" => [GlobalScope [Operators] [ExpressionRest]],
         "(" => [Expression ")" Close [Postfix] [Operators] [ExpressionRest]],
         "corun" => ["::" RunName [Postfix] [Operators] [ExpressionRest]],
-        "static_cast" => ["<" Type ">" Condition [Postfix] [Operators] [ExpressionRest]],
+        "static_cast" => ["<" TypeId ">" Condition [Postfix] [Operators] [ExpressionRest]],
         "literal" => [[Postfix] [Operators] [ExpressionRest]],
         "std" => ["::" "library function" [Postfix] [Operators] [ExpressionRest]],
         "class name" => ["::" FirstPath [Postfix] [Operators] [ExpressionRest]],
@@ -479,7 +479,7 @@ pub const RULES: [(Nonterminal, Pattern, &[Symbol]); 298] = rules! {
         "::" => [GlobalScope],
         "(" => [Expression ")" Close [Postfix]],
         "corun" => ["::" RunName [Postfix]],
-        "static_cast" => ["<" Type ">" Condition [Postfix]],
+        "static_cast" => ["<" TypeId ">" Condition [Postfix]],
         "literal" => [[Postfix]],
         "built-in type" => [Built [Postfix]],
         "std" => ["::" LibraryOperand [Postfix]],
