@@ -7,7 +7,7 @@ use Rattle.co_grammar.specs.declared.symbol.Symbol.TheVariants.{Token, One, Mayb
 use Rattle.co_grammar.specs.declared.symbol.Terminal.{Terminal}
 use Rattle.co_grammar.specs.Derives as d
 use Rattle.co_grammar.specs.Derives.{Derives}
-use Rattle.co_grammar.specs.Rule.{rules, start}
+use Rattle.co_grammar.specs.Rule.{rules, start, in_file, in_class, in_type, in_statement, in_head, in_local, in_value, in_argument, in_unary, in_operand, from_file, from_class, from_type, from_statement, from_head, from_local, from_value, from_argument, from_unary}
 use Rattle.co_grammar.proofs.Follow.{number, heads, follow, firsts, fits, Set, among, add, within, apart, covered}
 use Rattle.co_grammar.proofs.Numbers.{admits-number}
 use Rattle.co_grammar.proofs.Picks.{begins-heads}
@@ -100,5 +100,5 @@ derives-first stack t ts after (d.taken n p rest body u us b e) = add_left (numb
 derives-first stack t ts after (d.left_out n p rest us q e) = add_right (number t) (heads n) (firsts rest after) (derives-first rest t ts after e)
 
 pub start-fits : Fits nothing start
-unfolding fits heads follow rules Rattle.co_grammar.proofs.Follow.numbers
+unfolding fits heads follow in_file in_class in_type in_statement in_head in_local in_value in_argument in_unary in_operand from_file from_class from_type from_statement from_head from_local from_value from_argument from_unary Rattle.co_grammar.proofs.Follow.numbers
 start-fits = fits-Fits nothing start refl

@@ -1,3 +1,5 @@
+mod Appends
+mod Classes
 mod Fits
 mod Follow
 mod Numbers

@@ -41,8 +41,9 @@ alone-not r [] q t h s e a b = absurd s
 alone-not r (x ∷ rs) q t h s e a b =
     let p = and_split (not (nat_eq (nonterminal_number x.of) (nonterminal_number r.of)) || none_in (numbers r.head) (numbers x.head)) (alone r rs) h in
     elim s [
-      inl i ↦ none_in-in (number t) (numbers r.head) (numbers x.head) (clash (nat_eq (nonterminal_number x.of) (nonterminal_number r.of)) (none_in (numbers r.head) (numbers x.head)) p.0 (true_eq (nonterminal_number x.of) (nonterminal_number r.of) (ap (λ y. nonterminal_number y.of) i ∙ ap nonterminal_number e))) (admits-number r.head t a) (admits-number x.head t (ap (λ y. admits y.head t) i ∙ b))
-    | inr k ↦ alone-not r rs q t p.1 k e a b ]
+      | inl i ↦ none_in-in (number t) (numbers r.head) (numbers x.head) (clash (nat_eq (nonterminal_number x.of) (nonterminal_number r.of)) (none_in (numbers r.head) (numbers x.head)) p.0 (true_eq (nonterminal_number x.of) (nonterminal_number r.of) (ap (λ y. nonterminal_number y.of) i ∙ ap nonterminal_number e))) (admits-number r.head t a) (admits-number x.head t (ap (λ y. admits y.head t) i ∙ b))
+      | inr k ↦ alone-not r rs q t p.1 k e a b
+    ]
 
 applies-made : (c : Bool) (n : Nonterminal) (t : Terminal) (r : Rule) → r.of ≡ n → admits r.head t ≡ true → (c || not (list_any needs_class r.body)) ≡ true → applies c n t r ≡ true
 applies-made c n t r e a u =
@@ -82,8 +83,9 @@ found c n t r [] d s a = absurd s
 found c n t r (q ∷ rs) d s a =
     let p = and_split (alone q rs) (distinct rs) d in
     elim s [
-      inl e ↦ found-if c n t q r rs (applies c n t q) refl (λ _. ap (λ x. x.body) e) (λ no_rule. never (sym no_rule ∙ (ap (λ x. applies c n t x) e ∙ applies-made c n t r a.of a.head a.usable)))
-    | inr k ↦ found-if c n t q r rs (applies c n t q) refl (λ yes_rule. let b = applies-parts c n t q yes_rule in absurd (alone-not q rs r t p.0 k (a.of ∙ sym b.of) b.head a.head)) (λ _. found c n t r rs p.1 k a) ]
+      | inl e ↦ found-if c n t q r rs (applies c n t q) refl (λ _. ap (λ x. x.body) e) (λ no_rule. never (sym no_rule ∙ (ap (λ x. applies c n t x) e ∙ applies-made c n t r a.of a.head a.usable)))
+      | inr k ↦ found-if c n t q r rs (applies c n t q) refl (λ yes_rule. let b = applies-parts c n t q yes_rule in absurd (alone-not q rs r t p.0 k (a.of ∙ sym b.of) b.head a.head)) (λ _. found c n t r rs p.1 k a)
+    ]
 
 -- ---- what is picked for a terminal
 
@@ -114,8 +116,9 @@ heads-in : (n : Nonterminal) (t : Terminal) (r : Rule) (rs : List Rule) → Stan
 heads-in n t r [] s e a = absurd s
 heads-in n t r (q ∷ rs) s e a =
     elim s [
-      inl i ↦ heads-here (nat_eq (nonterminal_number q.of) (nonterminal_number n)) (number t) (numbers q.head) (heads_among n rs) (true_eq (nonterminal_number q.of) (nonterminal_number n) (ap (λ y. nonterminal_number y.of) i ∙ ap nonterminal_number e)) (admits-number q.head t (ap (λ y. admits y.head t) i ∙ a))
-    | inr k ↦ heads-later (nat_eq (nonterminal_number q.of) (nonterminal_number n)) (number t) (numbers q.head) (heads_among n rs) (heads-in n t r rs k e a) ]
+      | inl i ↦ heads-here (nat_eq (nonterminal_number q.of) (nonterminal_number n)) (number t) (numbers q.head) (heads_among n rs) (true_eq (nonterminal_number q.of) (nonterminal_number n) (ap (λ y. nonterminal_number y.of) i ∙ ap nonterminal_number e)) (admits-number q.head t (ap (λ y. admits y.head t) i ∙ a))
+      | inr k ↦ heads-later (nat_eq (nonterminal_number q.of) (nonterminal_number n)) (number t) (numbers q.head) (heads_among n rs) (heads-in n t r rs k e a)
+    ]
 
 pub begins-heads : (n : Nonterminal) (t : Terminal) (body : List Symbol) → Begins n t body → In (number t) (heads n)
 unfolding heads
@@ -151,8 +154,9 @@ covered-rule p n t r [] h s e a = absurd s
 covered-rule p n t r (q ∷ rs) h s e a =
     let k = and_split (not (nat_eq (nonterminal_number q.of) (nonterminal_number n)) || covers p q.head) (covered p n rs) h in
     elim s [
-      inl i ↦ covers-admits p q.head t (clash (nat_eq (nonterminal_number q.of) (nonterminal_number n)) (covers p q.head) k.0 (true_eq (nonterminal_number q.of) (nonterminal_number n) (ap (λ y. nonterminal_number y.of) i ∙ ap nonterminal_number e))) (ap (λ y. admits y.head t) i ∙ a)
-    | inr l ↦ covered-rule p n t r rs k.1 l e a ]
+      | inl i ↦ covers-admits p q.head t (clash (nat_eq (nonterminal_number q.of) (nonterminal_number n)) (covers p q.head) k.0 (true_eq (nonterminal_number q.of) (nonterminal_number n) (ap (λ y. nonterminal_number y.of) i ∙ ap nonterminal_number e))) (ap (λ y. admits y.head t) i ∙ a)
+      | inr l ↦ covered-rule p n t r rs k.1 l e a
+    ]
 
 pub covered-begins : (p : Pattern) (n : Nonterminal) (t : Terminal) (body : List Symbol) → covered p n rules ≡ true → Begins n t body → admits p t ≡ true
 covered-begins p n t body h b = covered-rule p n t b.0 rules h b.1 b.2 b.3

@@ -42,20 +42,24 @@ sound c t (Token p ∷ rest) after ts h e = let q = test_some (admits p t) rest 
 sound c t (Close ∷ rest) after ts h e = d.close rest (t ∷ ts) (sound c t rest after ts h e)
 sound c t (One n ∷ rest) after ts h e =
     elim (put_some c n t rest None after (body_for c n t) refl h) [
-      body_on body b i ↦ d.one n rest body t ts b (subst (λ s. Derives s ts) i e)
-    | the_other o ↦ none_some o ]
+      | body_on body b i ↦ d.one n rest body t ts b (subst (λ s. Derives s ts) i e)
+      | the_other o ↦ none_some o
+    ]
 sound c t (Maybe n ∷ rest) after ts h e =
     elim (put_some c n t rest (step c t rest) after (body_for c n t) refl h) [
-      body_on body b i ↦ d.some n rest body t ts b (subst (λ s. Derives s ts) i e)
-    | the_other o ↦ d.none n rest (t ∷ ts) (sound c t rest after ts o e) ]
+      | body_on body b i ↦ d.some n rest body t ts b (subst (λ s. Derives s ts) i e)
+      | the_other o ↦ d.none n rest (t ∷ ts) (sound c t rest after ts o e)
+    ]
 sound c t (Many n ∷ rest) after ts h e =
     elim (put_some c n t (Many n ∷ rest) (step c t rest) after (body_for c n t) refl h) [
-      body_on body b i ↦ d.more n rest body t ts b (subst (λ s. Derives s ts) i e)
-    | the_other o ↦ d.last n rest (t ∷ ts) (sound c t rest after ts o e) ]
+      | body_on body b i ↦ d.more n rest body t ts b (subst (λ s. Derives s ts) i e)
+      | the_other o ↦ d.last n rest (t ∷ ts) (sound c t rest after ts o e)
+    ]
 sound c t (Greedy n p ∷ rest) after ts h e =
     elim (put_some c n t rest (cond (admits p t) None (step c t rest)) after (body_for c n t) refl h) [
-      body_on body b i ↦ d.taken n p rest body t ts b (subst (λ s. Derives s ts) i e)
-    | the_other o ↦ let q = not_then (admits p t) (step c t rest) after o in d.left_out n p rest (t ∷ ts) q.0 (sound c t rest after ts q.1 e) ]
+      | body_on body b i ↦ d.taken n p rest body t ts b (subst (λ s. Derives s ts) i e)
+      | the_other o ↦ let q = not_then (admits p t) (step c t rest) after o in d.left_out n p rest (t ∷ ts) q.0 (sound c t rest after ts q.1 e)
+    ]
 
 -- ---- the stack after a terminal fits
 
@@ -65,20 +69,24 @@ preserved c t (Token p ∷ rest) after f h = subst (Fits nothing) (test_some (ad
 preserved c t (Close ∷ rest) after f h = preserved c t rest after f h
 preserved c t (One n ∷ rest) after f h =
     elim (put_some c n t rest None after (body_for c n t) refl h) [
-      body_on body b i ↦ subst (Fits nothing) (sym i) (fits-append body rest (follow n) nothing f.0 (fits-Fits (follow n) body (begins-fits n t body b)) f.1)
-    | the_other o ↦ none_some o ]
+      | body_on body b i ↦ subst (Fits nothing) (sym i) (fits-append body rest (follow n) nothing f.0 (fits-Fits (follow n) body (begins-fits n t body b)) f.1)
+      | the_other o ↦ none_some o
+    ]
 preserved c t (Maybe n ∷ rest) after f h =
     elim (put_some c n t rest (step c t rest) after (body_for c n t) refl h) [
-      body_on body b i ↦ subst (Fits nothing) (sym i) (fits-append body rest (follow n) nothing f.1 (fits-Fits (follow n) body (begins-fits n t body b)) f.2)
-    | the_other o ↦ preserved c t rest after f.2 o ]
+      | body_on body b i ↦ subst (Fits nothing) (sym i) (fits-append body rest (follow n) nothing f.1 (fits-Fits (follow n) body (begins-fits n t body b)) f.2)
+      | the_other o ↦ preserved c t rest after f.2 o
+    ]
 preserved c t (Many n ∷ rest) after f h =
     elim (put_some c n t (Many n ∷ rest) (step c t rest) after (body_for c n t) refl h) [
-      body_on body b i ↦ subst (Fits nothing) (sym i) (fits-append body (Many n ∷ rest) (follow n) nothing (λ a m. elim (add_split a (heads n) (firsts rest nothing) m) [ inl l ↦ f.2 a l | inr r ↦ f.1 a r ]) (fits-Fits (follow n) body (begins-fits n t body b)) f)
-    | the_other o ↦ preserved c t rest after f.3 o ]
+      | body_on body b i ↦ subst (Fits nothing) (sym i) (fits-append body (Many n ∷ rest) (follow n) nothing (λ a m. elim (add_split a (heads n) (firsts rest nothing) m) [ inl l ↦ f.2 a l | inr r ↦ f.1 a r ]) (fits-Fits (follow n) body (begins-fits n t body b)) f)
+      | the_other o ↦ preserved c t rest after f.3 o
+    ]
 preserved c t (Greedy n p ∷ rest) after f h =
     elim (put_some c n t rest (cond (admits p t) None (step c t rest)) after (body_for c n t) refl h) [
-      body_on body b i ↦ subst (Fits nothing) (sym i) (fits-append body rest (follow n) nothing f.1 (fits-Fits (follow n) body (begins-fits n t body b)) f.2)
-    | the_other o ↦ preserved c t rest after f.2 (not_then (admits p t) (step c t rest) after o).1 ]
+      | body_on body b i ↦ subst (Fits nothing) (sym i) (fits-append body rest (follow n) nothing f.1 (fits-Fits (follow n) body (begins-fits n t body b)) f.2)
+      | the_other o ↦ preserved c t rest after f.2 (not_then (admits p t) (step c t rest) after o).1
+    ]
 
 -- ---- where a derivable list goes on, the machine steps
 

@@ -1,11 +1,11 @@
 use Rattle.std.proofs.Common.{◌≡◌, true, refl}
-use Rattle.co_grammar.specs.Rule.{rules}
+use Rattle.co_grammar.specs.Rule.{rules, in_file, in_class, in_type, in_statement, in_head, in_local, in_value, in_argument, in_unary, in_operand, from_file, from_class, from_type, from_statement, from_head, from_local, from_value, from_argument, from_unary}
 use Rattle.co_grammar.proofs.Follow.{fit, fits, distinct, numbers, heads, follow}
 
 pub rules-distinct : distinct rules ≡ true
-unfolding rules numbers
+unfolding in_file in_class in_type in_statement in_head in_local in_value in_argument in_unary in_operand from_file from_class from_type from_statement from_head from_local from_value from_argument from_unary numbers
 rules-distinct = refl
 
 pub rules-fit : fit rules ≡ true
-unfolding rules numbers heads follow fits
+unfolding in_file in_class in_type in_statement in_head in_local in_value in_argument in_unary in_operand from_file from_class from_type from_statement from_head from_local from_value from_argument from_unary numbers heads follow fits
 rules-fit = refl

@@ -1,4 +1,7 @@
 pub mod Derives
 pub mod Machine
+pub mod Names
 pub mod Pattern
 pub mod Rule
+pub mod Scan
+pub mod Terminal

@@ -1,8 +1,7 @@
 -- The machine that reads a list of terminals with a stack of symbols, the first symbol on top.
-use Rattle.std.specs.Prelude.{ℕ, zero, suc, Bool, true, false, not, ◌&&◌, ◌||◌, if◌then◌else◌, nat_eq, nat_lt, List, [], ◌∷◌, ◌++◌, Option, Some, None, Result, Ok, Err}
+use Rattle.std.specs.Prelude.{◌≡◌, ℕ, ◌+◌, Bool, true, false, not, ◌&&◌, ◌||◌, if◌then◌else◌, nat_eq, nat_lt, List, [], ◌∷◌, ◌++◌, Option, Some, None, Result, Ok, Err}
+use Rattle.std.specs.Borrow.{Bor}
 use Rattle.std.specs.List.{list_any}
-use Rattle.co_grammar.specs.declared.fault.Fault.{Fault}
-use Rattle.co_grammar.specs.declared.fault.Fault.TheVariants.{Syntax, TooDeep, NoMemory}
 use Rattle.co_grammar.specs.declared.symbol.Nonterminal.{Nonterminal}
 use Rattle.co_grammar.specs.declared.symbol.Nonterminal.TheVariants as nonterminal
 use Rattle.co_grammar.specs.declared.symbol.Pattern.{Pattern}
@@ -18,9 +17,13 @@ abbrev pub needs_class : Symbol → Bool
 needs_class (One n) = nat_eq (nonterminal_number n) (nonterminal_number nonterminal.ClassPath)
 needs_class _ = false
 
--- Whether the rule is one of the nonterminal that begins with the terminal; without classes, one that needs none.
+-- whether the body derives something: with classes, each one does
+abbrev pub is_usable : Bool → List Symbol → Bool
+is_usable has_classes body = has_classes || not (list_any needs_class body)
+
+-- Whether the rule is one of the nonterminal that begins with the terminal.
 abbrev pub applies : Bool → Nonterminal → Terminal → Rule → Bool
-applies has_classes n t r = (nat_eq (nonterminal_number r.of) (nonterminal_number n) && admits r.head t) && (has_classes || not (list_any needs_class r.body))
+applies has_classes n t r = (nat_eq (nonterminal_number r.of) (nonterminal_number n) && admits r.head t) && is_usable has_classes r.body
 
 -- the body of the first such rule
 abbrev pub body_among : Bool → Nonterminal → Terminal → List Rule → Option (List Symbol)
@@ -29,6 +32,11 @@ body_among has_classes n t (r ∷ rs) = if applies has_classes n t r then Some r
 
 unfoldable pub body_for : Bool → Nonterminal → Terminal → Option (List Symbol)
 body_for has_classes n t = body_among has_classes n t rules
+
+-- what the code finds is what is told
+abbrev pub Finds : Option (Bor (List Symbol)) → Option (List Symbol) → Type 0
+Finds None told = told ≡ None
+Finds (Some body) told = told ≡ Some body.now
 
 abbrev pub put : Option (List Symbol) → List Symbol → Option (List Symbol) → Option (List Symbol)
 put (Some body) rest other = Some (body ++ rest)
@@ -44,12 +52,15 @@ step has_classes t (Maybe n ∷ rest) = put (body_for has_classes n t) rest (ste
 step has_classes t (Many n ∷ rest) = put (body_for has_classes n t) (Many n ∷ rest) (step has_classes t rest)
 step has_classes t (Greedy n p ∷ rest) = put (body_for has_classes n t) rest (if admits p t then None else step has_classes t rest)
 
+abbrev pub is_close : Symbol → Bool
+is_close Close = true
+is_close _ = false
+
+abbrev pub is_nil : List Symbol → Bool
+is_nil [] = true
+is_nil (s ∷ rest) = false
+
 -- how many nesting levels are open
 abbrev pub levels : List Symbol → ℕ
 levels [] = 0
-levels (Close ∷ rest) = suc (levels rest)
-levels (Token p ∷ rest) = levels rest
-levels (One n ∷ rest) = levels rest
-levels (Maybe n ∷ rest) = levels rest
-levels (Many n ∷ rest) = levels rest
-levels (Greedy n p ∷ rest) = levels rest
+levels (s ∷ rest) = if is_close s then levels rest + 1 else levels rest

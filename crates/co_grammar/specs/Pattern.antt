@@ -85,6 +85,10 @@ abbrev pub is_end : Pattern → Bool
 is_end pattern.End = true
 is_end _ = false
 
+-- whether a file may declare the name: any but `std` and `corun`
+abbrev pub is_plain : Known → Bool
+is_plain k = list_any (λ v. nat_eq (known_number v) (known_number k)) NAMES
+
 abbrev pub admits_word : Pattern → Word → Bool
 admits_word p w = list_any (λ v. nat_eq (word_number v) (word_number w)) (words p)
 

@@ -2,11 +2,18 @@
 #![tactic(auto)]
 
 mod fault;
+mod machine;
+mod names;
 mod pattern;
+mod stack;
 mod symbol;
 mod table;
+mod terminal;
 
 pub use fault::Fault;
+pub use machine::body_for;
+pub use names::{ClassNames, class_names};
 pub use pattern::admits;
+pub use stack::Stack;
 pub use symbol::{Known, Nonterminal, Pattern, Symbol, Terminal};
-pub use table::RULES;
+pub use terminal::terminal_of;

@@ -154,14 +154,21 @@ const NAMES: [Known; 20] = [
     Known::FromPromise,
 ];
 
+/// Whether the name is one that a file may declare: any but `std` and `corun`.
+pub fn is_plain(known: Known) -> bool
+    ensures { result ≡ spec.is_plain known }
+{
+    NAMES.contains(&known)
+}
+
 fn admits_name(pattern: Pattern, is_class: bool, known: Known) -> bool
     ensures { result ≡ spec.admits_name pattern is_class known }
 {
     match pattern {
         Pattern::Spelled(only) => only == known,
-        Pattern::Name => NAMES.contains(&known),
-        Pattern::ClassName => is_class && NAMES.contains(&known),
-        Pattern::OtherName => !is_class && NAMES.contains(&known),
+        Pattern::Name => is_plain(known),
+        Pattern::ClassName => is_class && is_plain(known),
+        Pattern::OtherName => !is_class && is_plain(known),
         Pattern::LibraryObject => LIBRARY_OBJECTS.contains(&known),
         Pattern::LibraryFunction => LIBRARY_FUNCTIONS.contains(&known),
         Pattern::HandleFunction => HANDLE_FUNCTIONS.contains(&known),

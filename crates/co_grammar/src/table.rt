@@ -97,7 +97,8 @@ macro_rules! rules {
     };
 }
 
-pub const RULES: [(Nonterminal, Pattern, &[Symbol]); 298] = rules! {
+/// What a file declares [basic.link].
+pub const FILE: [(Nonterminal, Pattern, &[Symbol]); 31] = rules! {
     Item {
         "class key" => ["name" ClassRest],
         "using" => ["name" "=" TypeId ";"],
@@ -151,6 +152,10 @@ pub const RULES: [(Nonterminal, Pattern, &[Symbol]); 298] = rules! {
     Const {
         "const" => [],
     }
+};
+
+/// What a class declares [class.mem].
+pub const CLASS: [(Nonterminal, Pattern, &[Symbol]); 41] = rules! {
     Member {
         "access specifier" => [":"],
         "class key" => ["name" ClassRest],
@@ -220,6 +225,10 @@ pub const RULES: [(Nonterminal, Pattern, &[Symbol]); 298] = rules! {
         "{" => [{Statement} "}" Close],
         "=" => ["default" ";"],
     }
+};
+
+/// Parameters and types [dcl.type] [dcl.fct].
+pub const TYPE: [(Nonterminal, Pattern, &[Symbol]); 32] = rules! {
     Parameters {
         "const" => [Base [TypeRest] [ParameterName] {NextParameter}],
         "built-in type" => [[TypeRest] [ParameterName] {NextParameter}],
@@ -276,6 +285,10 @@ pub const RULES: [(Nonterminal, Pattern, &[Symbol]); 298] = rules! {
         "*" => [[Pointers] Close],
         "& or &&" => [],
     }
+};
+
+/// Statements [stmt.pre].
+pub const STATEMENT: [(Nonterminal, Pattern, &[Symbol]); 30] = rules! {
     Block {
         "{" => [{Statement} "}" Close],
     }
@@ -316,6 +329,10 @@ pub const RULES: [(Nonterminal, Pattern, &[Symbol]); 298] = rules! {
     ForHead {
         "(" => [ForInit [Expression] ";" [Expression] ")" Close],
     }
+};
+
+/// What `for` and `catch` have in their parentheses [stmt.for] [except.pre].
+pub const HEAD: [(Nonterminal, Pattern, &[Symbol]); 25] = rules! {
     ForInit {
         ";" => [],
         "co_yield" => [Expression Close ";"],
@@ -349,6 +366,10 @@ pub const RULES: [(Nonterminal, Pattern, &[Symbol]); 298] = rules! {
         "class name" => [[InnerClass] [TypeRest] [ParameterName]],
         "other name" => ["::" ClassPath [TypeRest] [ParameterName]],
     }
+};
+
+/// The rest of a statement that begins with a type or a path [stmt.dcl].
+pub const LOCAL: [(Nonterminal, Pattern, &[Symbol]); 35] = rules! {
     AfterBuiltin {
         "const" => [[Pointers] "name" [LocalRest]],
         "*" => [[Pointers] Close "name" [LocalRest]],
@@ -398,6 +419,10 @@ pub const RULES: [(Nonterminal, Pattern, &[Symbol]); 298] = rules! {
         "(" => [FirstArgument {NextArgument} ")" Close],
         "{" => [[Arguments] "}" Close],
     }
+};
+
+/// Expressions, and braces in their place [expr] [dcl.init].
+pub const VALUE: [(Nonterminal, Pattern, &[Symbol]); 29] = rules! {
     Value {
         "co_yield" => [Expression Close],
         "throw" => [[Expression] Close],
@@ -431,6 +456,10 @@ pub const RULES: [(Nonterminal, Pattern, &[Symbol]); 298] = rules! {
         "class name" => [ClassOperand [Postfix] [Operators] [ExpressionRest]],
         "other name" => [[Scope] [Postfix] [Operators] [ExpressionRest]],
     }
+};
+
+/// Arguments [expr.call].
+pub const ARGUMENT: [(Nonterminal, Pattern, &[Symbol]); 31] = rules! {
     Arguments {
         "co_yield" => [Expression Close {NextArgument}],
         "throw" => [[Expression] Close {NextArgument}],
@@ -472,6 +501,10 @@ pub const RULES: [(Nonterminal, Pattern, &[Symbol]); 298] = rules! {
         "class name" => ["::" FirstPath],
         "other name" => [[FirstScope]],
     }
+};
+
+/// Unary expressions [expr.unary].
+pub const UNARY: [(Nonterminal, Pattern, &[Symbol]); 22] = rules! {
     Unary {
         "unary operator" => [Unary Close],
         "new" => [Base (NewRest) Close],
@@ -506,6 +539,10 @@ pub const RULES: [(Nonterminal, Pattern, &[Symbol]); 298] = rules! {
     TextArgument {
         "(" => ["text" ")" Close],
     }
+};
+
+/// The rest of operands and expressions [expr.post].
+pub const OPERAND: [(Nonterminal, Pattern, &[Symbol]); 22] = rules! {
     Built {
         "(" => [[Arguments] ")" Close],
         "{" => [[Arguments] "}" Close],

@@ -1,0 +1,229 @@
+ghost use Rattle.std.specs.Prelude.{◌≡◌, None, Some, map, IfOk, MatchOption};
+ghost use Rattle.std.specs.List.{list_any};
+ghost use Rattle.co_grammar.specs.Machine as spec;
+ghost use Rattle.co_grammar.specs.Rule.{rule, in_file, in_class, in_type, in_statement, in_head, in_local, in_value, in_argument, in_unary, in_operand, from_file, from_class, from_type, from_statement, from_head, from_local, from_value, from_argument, from_unary};
+
+use crate::fault::Fault;
+use crate::names::class_names;
+use crate::pattern::admits;
+use crate::stack::Stack;
+use crate::symbol::{Nonterminal, Pattern, Symbol, Terminal};
+use crate::table::{ARGUMENT, CLASS, FILE, HEAD, LOCAL, OPERAND, STATEMENT, TYPE, UNARY, VALUE};
+use crate::terminal::terminal_of;
+use co_base::NoMemory;
+use co_lex::Token;
+use std::alloc::Global;
+
+fn needs_class(symbol: Symbol) -> bool
+    ensures { result ≡ spec.needs_class symbol }
+{
+    match symbol {
+        Symbol::One(of) => of == Nonterminal::ClassPath,
+        _ => false,
+    }
+}
+
+fn is_barren(body: &[Symbol]) -> bool
+    ensures { result ≡ list_any spec.needs_class body.now }
+{
+    body.iter().any(|symbol| needs_class(*symbol))
+}
+
+fn is_usable(has_classes: bool, body: &[Symbol]) -> bool
+    ensures { result ≡ spec.is_usable has_classes body.now }
+{
+    has_classes || !is_barren(body)
+}
+
+fn body_among(
+    has_classes: bool,
+    of: Nonterminal,
+    terminal: Terminal,
+    mut rules: &[(Nonterminal, Pattern, &'static [Symbol])],
+) -> Option<&'static [Symbol]>
+    ensures { spec.Finds result (spec.body_among has_classes of terminal (map (λ r. rule r.0 r.1 r.2.now) rules.entry.now)) }
+{
+    while let [rule, rest @ ..] = rules {
+        if rule.0 == of && admits(rule.1, terminal) && is_usable(has_classes, rule.2) {
+            return Some(rule.2);
+        }
+        rules = rest;
+    }
+    None
+}
+
+#[tactic(auto, unfolding(crate::specs::Rule::in_file))]
+fn in_file(has_classes: bool, of: Nonterminal, terminal: Terminal) -> Option<&'static [Symbol]>
+    ensures { spec.Finds result (spec.body_among has_classes of terminal in_file) }
+{
+    body_among(has_classes, of, terminal, &FILE)
+}
+
+#[tactic(auto, unfolding(crate::specs::Rule::in_class))]
+fn in_class(has_classes: bool, of: Nonterminal, terminal: Terminal) -> Option<&'static [Symbol]>
+    ensures { spec.Finds result (spec.body_among has_classes of terminal in_class) }
+{
+    body_among(has_classes, of, terminal, &CLASS)
+}
+
+#[tactic(auto, unfolding(crate::specs::Rule::in_type))]
+fn in_type(has_classes: bool, of: Nonterminal, terminal: Terminal) -> Option<&'static [Symbol]>
+    ensures { spec.Finds result (spec.body_among has_classes of terminal in_type) }
+{
+    body_among(has_classes, of, terminal, &TYPE)
+}
+
+#[tactic(auto, unfolding(crate::specs::Rule::in_statement))]
+fn in_statement(has_classes: bool, of: Nonterminal, terminal: Terminal) -> Option<&'static [Symbol]>
+    ensures { spec.Finds result (spec.body_among has_classes of terminal in_statement) }
+{
+    body_among(has_classes, of, terminal, &STATEMENT)
+}
+
+#[tactic(auto, unfolding(crate::specs::Rule::in_head))]
+fn in_head(has_classes: bool, of: Nonterminal, terminal: Terminal) -> Option<&'static [Symbol]>
+    ensures { spec.Finds result (spec.body_among has_classes of terminal in_head) }
+{
+    body_among(has_classes, of, terminal, &HEAD)
+}
+
+#[tactic(auto, unfolding(crate::specs::Rule::in_local))]
+fn in_local(has_classes: bool, of: Nonterminal, terminal: Terminal) -> Option<&'static [Symbol]>
+    ensures { spec.Finds result (spec.body_among has_classes of terminal in_local) }
+{
+    body_among(has_classes, of, terminal, &LOCAL)
+}
+
+#[tactic(auto, unfolding(crate::specs::Rule::in_value))]
+fn in_value(has_classes: bool, of: Nonterminal, terminal: Terminal) -> Option<&'static [Symbol]>
+    ensures { spec.Finds result (spec.body_among has_classes of terminal in_value) }
+{
+    body_among(has_classes, of, terminal, &VALUE)
+}
+
+#[tactic(auto, unfolding(crate::specs::Rule::in_argument))]
+fn in_argument(has_classes: bool, of: Nonterminal, terminal: Terminal) -> Option<&'static [Symbol]>
+    ensures { spec.Finds result (spec.body_among has_classes of terminal in_argument) }
+{
+    body_among(has_classes, of, terminal, &ARGUMENT)
+}
+
+#[tactic(auto, unfolding(crate::specs::Rule::in_unary))]
+fn in_unary(has_classes: bool, of: Nonterminal, terminal: Terminal) -> Option<&'static [Symbol]>
+    ensures { spec.Finds result (spec.body_among has_classes of terminal in_unary) }
+{
+    body_among(has_classes, of, terminal, &UNARY)
+}
+
+#[tactic(auto, unfolding(crate::specs::Rule::in_operand))]
+fn in_operand(has_classes: bool, of: Nonterminal, terminal: Terminal) -> Option<&'static [Symbol]>
+    ensures { spec.Finds result (spec.body_among has_classes of terminal in_operand) }
+{
+    body_among(has_classes, of, terminal, &OPERAND)
+}
+
+#[tactic(auto, unfolding(crate::specs::Rule::from_unary))]
+fn from_unary(has_classes: bool, of: Nonterminal, terminal: Terminal) -> Option<&'static [Symbol]>
+    ensures { spec.Finds result (spec.body_among has_classes of terminal from_unary) }
+{
+    match in_unary(has_classes, of, terminal) {
+        Some(body) => Some(body),
+        None => in_operand(has_classes, of, terminal),
+    }
+}
+
+#[tactic(auto, unfolding(crate::specs::Rule::from_argument))]
+fn from_argument(
+    has_classes: bool,
+    of: Nonterminal,
+    terminal: Terminal,
+) -> Option<&'static [Symbol]>
+    ensures { spec.Finds result (spec.body_among has_classes of terminal from_argument) }
+{
+    match in_argument(has_classes, of, terminal) {
+        Some(body) => Some(body),
+        None => from_unary(has_classes, of, terminal),
+    }
+}
+
+#[tactic(auto, unfolding(crate::specs::Rule::from_value))]
+fn from_value(has_classes: bool, of: Nonterminal, terminal: Terminal) -> Option<&'static [Symbol]>
+    ensures { spec.Finds result (spec.body_among has_classes of terminal from_value) }
+{
+    match in_value(has_classes, of, terminal) {
+        Some(body) => Some(body),
+        None => from_argument(has_classes, of, terminal),
+    }
+}
+
+#[tactic(auto, unfolding(crate::specs::Rule::from_local))]
+fn from_local(has_classes: bool, of: Nonterminal, terminal: Terminal) -> Option<&'static [Symbol]>
+    ensures { spec.Finds result (spec.body_among has_classes of terminal from_local) }
+{
+    match in_local(has_classes, of, terminal) {
+        Some(body) => Some(body),
+        None => from_value(has_classes, of, terminal),
+    }
+}
+
+#[tactic(auto, unfolding(crate::specs::Rule::from_head))]
+fn from_head(has_classes: bool, of: Nonterminal, terminal: Terminal) -> Option<&'static [Symbol]>
+    ensures { spec.Finds result (spec.body_among has_classes of terminal from_head) }
+{
+    match in_head(has_classes, of, terminal) {
+        Some(body) => Some(body),
+        None => from_local(has_classes, of, terminal),
+    }
+}
+
+#[tactic(auto, unfolding(crate::specs::Rule::from_statement))]
+fn from_statement(
+    has_classes: bool,
+    of: Nonterminal,
+    terminal: Terminal,
+) -> Option<&'static [Symbol]>
+    ensures { spec.Finds result (spec.body_among has_classes of terminal from_statement) }
+{
+    match in_statement(has_classes, of, terminal) {
+        Some(body) => Some(body),
+        None => from_head(has_classes, of, terminal),
+    }
+}
+
+#[tactic(auto, unfolding(crate::specs::Rule::from_type))]
+fn from_type(has_classes: bool, of: Nonterminal, terminal: Terminal) -> Option<&'static [Symbol]>
+    ensures { spec.Finds result (spec.body_among has_classes of terminal from_type) }
+{
+    match in_type(has_classes, of, terminal) {
+        Some(body) => Some(body),
+        None => from_statement(has_classes, of, terminal),
+    }
+}
+
+#[tactic(auto, unfolding(crate::specs::Rule::from_class))]
+fn from_class(has_classes: bool, of: Nonterminal, terminal: Terminal) -> Option<&'static [Symbol]>
+    ensures { spec.Finds result (spec.body_among has_classes of terminal from_class) }
+{
+    match in_class(has_classes, of, terminal) {
+        Some(body) => Some(body),
+        None => from_type(has_classes, of, terminal),
+    }
+}
+
+#[tactic(auto, unfolding(crate::specs::Rule::from_file))]
+fn from_file(has_classes: bool, of: Nonterminal, terminal: Terminal) -> Option<&'static [Symbol]>
+    ensures { spec.Finds result (spec.body_among has_classes of terminal from_file) }
+{
+    match in_file(has_classes, of, terminal) {
+        Some(body) => Some(body),
+        None => from_class(has_classes, of, terminal),
+    }
+}
+
+/// What follows the terminal in the one rule of the nonterminal that begins with it, if there is one.
+#[tactic(auto, unfolding(crate::specs::Machine::body_for))]
+pub fn body_for(has_classes: bool, of: Nonterminal, terminal: Terminal) -> Option<&'static [Symbol]>
+    ensures { spec.Finds result (spec.body_for has_classes of terminal) }
+{
+    from_file(has_classes, of, terminal)
+}
