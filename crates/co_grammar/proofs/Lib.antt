@@ -2,6 +2,7 @@ mod Appends
 mod Classes
 mod Fits
 mod Follow
+mod Levels
 mod Numbers
 mod Picks
 mod Places

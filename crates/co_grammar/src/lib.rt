@@ -11,7 +11,7 @@ mod table;
 mod terminal;
 
 pub use fault::Fault;
-pub use machine::body_for;
+pub use machine::{body_for, step};
 pub use names::{ClassNames, class_names};
 pub use pattern::admits;
 pub use stack::Stack;

@@ -1,4 +1,5 @@
-ghost use Rattle.std.specs.Prelude.{◌≡◌, None, Some, map, IfOk, MatchOption};
+ghost use Rattle.std.specs.Prelude.{◌≡◌, ◌++◌, List, Option, None, Some, map, IfOk};
+ghost use Rattle.co_grammar.specs.declared.symbol.Symbol.{Symbol};
 ghost use Rattle.std.specs.List.{list_any};
 ghost use Rattle.co_grammar.specs.Machine as spec;
 ghost use Rattle.co_grammar.specs.Rule.{rule, in_file, in_class, in_type, in_statement, in_head, in_local, in_value, in_argument, in_unary, in_operand, from_file, from_class, from_type, from_statement, from_head, from_local, from_value, from_argument, from_unary};
@@ -226,4 +227,67 @@ pub fn body_for(has_classes: bool, of: Nonterminal, terminal: Terminal) -> Optio
     ensures { spec.Finds result (spec.body_for has_classes of terminal) }
 {
     from_file(has_classes, of, terminal)
+}
+
+fn put(body: &[Symbol], mut stack: Stack) -> Result<Option<Stack>, NoMemory>
+    ensures { IfOk result (λ after. after ≡ Some (body.now ++ stack)) }
+{
+    stack.push_all(body)?;
+    Ok(Some(stack))
+}
+
+fn put_one(body: Option<&'static [Symbol]>, stack: Stack) -> Result<Option<Stack>, NoMemory>
+    ensures { (told : Option (List Symbol)) → spec.Finds body.entry told → IfOk result (λ after. after ≡ spec.put told stack None) }
+{
+    match body {
+        Some(body) => put(body, stack),
+        None => Ok(None),
+    }
+}
+
+/// The stack after the terminal, or `None` where no list that the stack derives begins with it.
+///
+/// # Errors
+///
+/// `NoMemory` where memory runs out; the stack is dropped.
+pub fn step(
+    has_classes: bool,
+    terminal: Terminal,
+    mut stack: Stack,
+) -> Result<Option<Stack>, NoMemory>
+    ensures { IfOk result (λ after. after ≡ spec.step has_classes terminal stack) }
+{
+    while let Some(symbol) = stack.pop() {
+        match symbol {
+            Symbol::Close => {}
+            Symbol::Token(pattern) => {
+                return Ok(if admits(pattern, terminal) {
+                    Some(stack)
+                } else {
+                    None
+                });
+            }
+            Symbol::One(of) => return put_one(body_for(has_classes, of, terminal), stack),
+            Symbol::Maybe(of) => {
+                if let Some(body) = body_for(has_classes, of, terminal) {
+                    return put(body, stack);
+                }
+            }
+            Symbol::Many(of) => {
+                if let Some(body) = body_for(has_classes, of, terminal) {
+                    stack.push(symbol)?;
+                    return put(body, stack);
+                }
+            }
+            Symbol::Greedy(of, pattern) => {
+                if let Some(body) = body_for(has_classes, of, terminal) {
+                    return put(body, stack);
+                }
+                if admits(pattern, terminal) {
+                    return Ok(None);
+                }
+            }
+        }
+    }
+    Ok(None)
 }

@@ -10,7 +10,7 @@ use std::marker::Model;
 #[derive(Drop)]
 pub struct Stack {
     symbols: Vec<Symbol>,
-    levels: usize,
+    depth: usize,
 }
 
 impl Model for Stack {
@@ -22,7 +22,7 @@ impl Model for Stack {
 
     ghost view = { λ s. reverse s.symbols.items };
 
-    ghost invariant = { λ s. s.levels ≡ levels (reverse s.symbols.items) };
+    ghost invariant = { λ s. s.depth ≡ levels (reverse s.symbols.items) };
 }
 
 fn is_close(symbol: Symbol) -> bool
@@ -38,7 +38,7 @@ impl Stack {
     {
         Stack {
             symbols: Vec::new(alloc),
-            levels: 0,
+            depth: 0,
         }
     }
 
@@ -52,7 +52,7 @@ impl Stack {
     pub fn levels(&self) -> usize
         ensures { result ≡ spec.levels self.now }
     {
-        self.levels
+        self.depth
     }
 
     /// One symbol more, on top.
@@ -62,7 +62,7 @@ impl Stack {
     {
         self.symbols.push(symbol)?;
         if is_close(symbol) {
-            self.levels += 1;
+            self.depth += 1;
         }
         Ok(())
     }
@@ -73,7 +73,7 @@ impl Stack {
     {
         let symbol = self.symbols.pop()?;
         if is_close(symbol) {
-            self.levels -= 1;
+            self.depth -= 1;
         }
         Some(symbol)
     }
