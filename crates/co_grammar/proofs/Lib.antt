@@ -3,6 +3,8 @@ mod Classes
 mod Fits
 mod Follow
 mod Levels
+mod Live
+mod Lives
 mod Numbers
 mod Picks
 mod Places

@@ -8,7 +8,7 @@ use Rattle.co_grammar.proofs.Sets.{eq_true}
 abbrev pub every : List Nonterminal
 every = Item ∷ Specifier ∷ ClassRest ∷ ResultType ∷ GlobalName ∷ FunctionName ∷ GlobalRest ∷ FunctionRest ∷ FunctionBody ∷ Noexcept ∷ Const ∷ Member ∷ MemberOfClass ∷ MemberOfOther ∷ MethodName ∷ FieldName ∷ MethodRest ∷ FieldRest ∷ ConstructorRest ∷ ConstructorBody ∷ Defaulted ∷ Initializer ∷ NextInitializer ∷ NoParameters ∷ DestructorBody ∷ Parameters ∷ NextParameter ∷ ParameterName ∷ TypeId ∷ Base ∷ InnerClass ∷ ClassPath ∷ LibraryType ∷ AtomicArgument ∷ AtomicPointer ∷ TypeRest ∷ Pointers ∷ Block ∷ Statement ∷ Else ∷ Condition ∷ ForHead ∷ ForInit ∷ Catch ∷ CatchHead ∷ CatchParameter ∷ AfterBuiltin ∷ AfterClass ∷ AfterHandle ∷ LibraryStatement ∷ StatementPath ∷ AfterOther ∷ LocalRest ∷ Value ∷ Expression ∷ Arguments ∷ NextArgument ∷ FirstArgument ∷ FirstScope ∷ FirstPath ∷ Unary ∷ GlobalScope ∷ GivenArguments ∷ NewRest ∷ RunName ∷ TextArgument ∷ Built ∷ LibraryOperand ∷ HandleOperand ∷ ClassOperand ∷ Scope ∷ Path ∷ Postfix ∷ Operators ∷ ExpressionRest ∷ Reference ∷ []
 
-at_place : (n : Nonterminal) → get_or every (nonterminal_number n) Item ≡ n
+pub at_place : (n : Nonterminal) → get_or every (nonterminal_number n) Item ≡ n
 at_place Item = refl
 at_place Specifier = refl
 at_place ClassRest = refl

@@ -9,30 +9,30 @@ use Rattle.co_grammar.specs.declared.symbol.Symbol.TheVariants.{Token, One, Mayb
 use Rattle.co_grammar.specs.declared.symbol.Terminal.{Terminal}
 use Rattle.co_grammar.specs.Derives as d
 use Rattle.co_grammar.specs.Derives.{Derives, Begins}
-use Rattle.co_grammar.specs.Machine.{needs_class, body_for, put, step}
+use Rattle.co_grammar.specs.Machine.{needs_class, is_usable, body_for, put, step}
 use Rattle.co_grammar.specs.Pattern.{admits}
 use Rattle.co_grammar.specs.Rule.{rules, start}
 use Rattle.co_grammar.proofs.Follow.{number, heads, follow, firsts, add}
 use Rattle.co_grammar.proofs.Fits.{nothing, Fits, fits-Fits, fits-append, derives-first}
-use Rattle.co_grammar.proofs.Picks.{none_some, some_same, begins-picked, picked-begins, begins-heads, begins-fits, covered-begins}
+use Rattle.co_grammar.proofs.Picks.{none_some, some_same, begins-picked, picked-begins, picked-usable, begins-heads, begins-fits, covered-begins}
 use Rattle.co_grammar.proofs.Sets.{never, add_split, Apart}
 
 -- ---- what the stack after the terminal derives, the stack before derives with the terminal
 
-test_some : (b : Bool) (rest after : List Symbol) → cond b (Some rest) None ≡ Some after → (b ≡ true) × (rest ≡ after)
+pub test_some : (b : Bool) (rest after : List Symbol) → cond b (Some rest) None ≡ Some after → (b ≡ true) × (rest ≡ after)
 test_some true rest after h = (refl, some_same h)
 test_some false rest after h = none_some h
 
 -- what a put leaves: a body on the rest, or the other
-pub data Put (n : Nonterminal) (t : Terminal) (rest : List Symbol) (other : Option (List Symbol)) (after : List Symbol) : Type 0 where
-  body_on : (body : List Symbol) → Begins n t body → after ≡ body ++ rest → Put n t rest other after
-  the_other : other ≡ Some after → Put n t rest other after
+pub data Put (c : Bool) (n : Nonterminal) (t : Terminal) (rest : List Symbol) (other : Option (List Symbol)) (after : List Symbol) : Type 0 where
+  body_on : (body : List Symbol) → Begins n t body → is_usable c body ≡ true → after ≡ body ++ rest → Put c n t rest other after
+  the_other : other ≡ Some after → Put c n t rest other after
 
-put_some : (c : Bool) (n : Nonterminal) (t : Terminal) (rest : List Symbol) (other : Option (List Symbol)) (after : List Symbol) (o : Option (List Symbol)) → o ≡ body_for c n t → put o rest other ≡ Some after → Put n t rest other after
-put_some c n t rest other after (Some body) e h = body_on body (picked-begins c n t body (sym e)) (sym (some_same h))
+pub put_some : (c : Bool) (n : Nonterminal) (t : Terminal) (rest : List Symbol) (other : Option (List Symbol)) (after : List Symbol) (o : Option (List Symbol)) → o ≡ body_for c n t → put o rest other ≡ Some after → Put c n t rest other after
+put_some c n t rest other after (Some body) e h = body_on body (picked-begins c n t body (sym e)) (picked-usable c n t body (sym e)) (sym (some_same h))
 put_some c n t rest other after None e h = the_other h
 
-not_then : (b : Bool) (o : Option (List Symbol)) (after : List Symbol) → cond b None o ≡ Some after → (b ≡ false) × (o ≡ Some after)
+pub not_then : (b : Bool) (o : Option (List Symbol)) (after : List Symbol) → cond b None o ≡ Some after → (b ≡ false) × (o ≡ Some after)
 not_then true o after h = none_some h
 not_then false o after h = (refl, h)
 
@@ -42,22 +42,22 @@ sound c t (Token p ∷ rest) after ts h e = let q = test_some (admits p t) rest 
 sound c t (Close ∷ rest) after ts h e = d.close rest (t ∷ ts) (sound c t rest after ts h e)
 sound c t (One n ∷ rest) after ts h e =
     elim (put_some c n t rest None after (body_for c n t) refl h) [
-      | body_on body b i ↦ d.one n rest body t ts b (subst (λ s. Derives s ts) i e)
+      | body_on body b u i ↦ d.one n rest body t ts b (subst (λ s. Derives s ts) i e)
       | the_other o ↦ none_some o
     ]
 sound c t (Maybe n ∷ rest) after ts h e =
     elim (put_some c n t rest (step c t rest) after (body_for c n t) refl h) [
-      | body_on body b i ↦ d.some n rest body t ts b (subst (λ s. Derives s ts) i e)
+      | body_on body b u i ↦ d.some n rest body t ts b (subst (λ s. Derives s ts) i e)
       | the_other o ↦ d.none n rest (t ∷ ts) (sound c t rest after ts o e)
     ]
 sound c t (Many n ∷ rest) after ts h e =
     elim (put_some c n t (Many n ∷ rest) (step c t rest) after (body_for c n t) refl h) [
-      | body_on body b i ↦ d.more n rest body t ts b (subst (λ s. Derives s ts) i e)
+      | body_on body b u i ↦ d.more n rest body t ts b (subst (λ s. Derives s ts) i e)
       | the_other o ↦ d.last n rest (t ∷ ts) (sound c t rest after ts o e)
     ]
 sound c t (Greedy n p ∷ rest) after ts h e =
     elim (put_some c n t rest (cond (admits p t) None (step c t rest)) after (body_for c n t) refl h) [
-      | body_on body b i ↦ d.taken n p rest body t ts b (subst (λ s. Derives s ts) i e)
+      | body_on body b u i ↦ d.taken n p rest body t ts b (subst (λ s. Derives s ts) i e)
       | the_other o ↦ let q = not_then (admits p t) (step c t rest) after o in d.left_out n p rest (t ∷ ts) q.0 (sound c t rest after ts q.1 e)
     ]
 
@@ -69,22 +69,22 @@ preserved c t (Token p ∷ rest) after f h = subst (Fits nothing) (test_some (ad
 preserved c t (Close ∷ rest) after f h = preserved c t rest after f h
 preserved c t (One n ∷ rest) after f h =
     elim (put_some c n t rest None after (body_for c n t) refl h) [
-      | body_on body b i ↦ subst (Fits nothing) (sym i) (fits-append body rest (follow n) nothing f.0 (fits-Fits (follow n) body (begins-fits n t body b)) f.1)
+      | body_on body b u i ↦ subst (Fits nothing) (sym i) (fits-append body rest (follow n) nothing f.0 (fits-Fits (follow n) body (begins-fits n t body b)) f.1)
       | the_other o ↦ none_some o
     ]
 preserved c t (Maybe n ∷ rest) after f h =
     elim (put_some c n t rest (step c t rest) after (body_for c n t) refl h) [
-      | body_on body b i ↦ subst (Fits nothing) (sym i) (fits-append body rest (follow n) nothing f.1 (fits-Fits (follow n) body (begins-fits n t body b)) f.2)
+      | body_on body b u i ↦ subst (Fits nothing) (sym i) (fits-append body rest (follow n) nothing f.1 (fits-Fits (follow n) body (begins-fits n t body b)) f.2)
       | the_other o ↦ preserved c t rest after f.2 o
     ]
 preserved c t (Many n ∷ rest) after f h =
     elim (put_some c n t (Many n ∷ rest) (step c t rest) after (body_for c n t) refl h) [
-      | body_on body b i ↦ subst (Fits nothing) (sym i) (fits-append body (Many n ∷ rest) (follow n) nothing (λ a m. elim (add_split a (heads n) (firsts rest nothing) m) [ inl l ↦ f.2 a l | inr r ↦ f.1 a r ]) (fits-Fits (follow n) body (begins-fits n t body b)) f)
+      | body_on body b u i ↦ subst (Fits nothing) (sym i) (fits-append body (Many n ∷ rest) (follow n) nothing (λ a m. elim (add_split a (heads n) (firsts rest nothing) m) [ inl l ↦ f.2 a l | inr r ↦ f.1 a r ]) (fits-Fits (follow n) body (begins-fits n t body b)) f)
       | the_other o ↦ preserved c t rest after f.3 o
     ]
 preserved c t (Greedy n p ∷ rest) after f h =
     elim (put_some c n t rest (cond (admits p t) None (step c t rest)) after (body_for c n t) refl h) [
-      | body_on body b i ↦ subst (Fits nothing) (sym i) (fits-append body rest (follow n) nothing f.1 (fits-Fits (follow n) body (begins-fits n t body b)) f.2)
+      | body_on body b u i ↦ subst (Fits nothing) (sym i) (fits-append body rest (follow n) nothing f.1 (fits-Fits (follow n) body (begins-fits n t body b)) f.2)
       | the_other o ↦ preserved c t rest after f.2 (not_then (admits p t) (step c t rest) after o).1
     ]
 
@@ -108,7 +108,7 @@ more_not : (b x y : Bool) → (not x ≡ true → not y ≡ true) → not (b || 
 more_not true x y f h = h
 more_not false x y f h = f h
 
-without : (body rest : List Symbol) → not (list_any needs_class (body ++ rest)) ≡ true → not (list_any needs_class body) ≡ true
+pub without : (body rest : List Symbol) → not (list_any needs_class (body ++ rest)) ≡ true → not (list_any needs_class body) ≡ true
 without [] rest h = refl
 without (s ∷ body) rest h = more_not (needs_class s) (list_any needs_class (body ++ rest)) (list_any needs_class body) (without body rest) h
 
