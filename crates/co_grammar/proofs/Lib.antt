@@ -8,6 +8,7 @@ mod Lives
 mod Numbers
 mod Picks
 mod Places
+mod Scans
 mod Sets
 mod Steps
 mod Tests

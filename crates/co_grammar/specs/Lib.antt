@@ -1,4 +1,5 @@
 pub mod Derives
+pub mod Laws
 pub mod Machine
 pub mod Names
 pub mod Pattern
