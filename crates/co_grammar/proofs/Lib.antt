@@ -1,5 +1,7 @@
 mod Appends
 mod Classes
+mod Exact
+mod Examples
 mod Fits
 mod Follow
 mod Levels
