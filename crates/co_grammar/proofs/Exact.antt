@@ -61,10 +61,9 @@ accepts_files tokens =
     let names = classes tokens in
     let ts = terminals names tokens in
     let has = has_some names in
-    let len = terminals-length names tokens in
-    (
+    let len = terminals-length names tokens in (
       λ h. (accepted has 0 ts start h, subst (λ n. IsShallow n (depths tokens)) len (accepted-shallow has 0 ts start h)),
-      λ h. accepts has 0 ts start (start-good has) (suits-terminals names tokens) h.0 (subst (λ n. IsShallow n (depths tokens)) (sym len) h.1)
+      λ h. accepts has 0 ts start (start-good has) (suits-terminals names tokens) h.0 (subst (λ n. IsShallow n (depths tokens)) (sym len) h.1),
     )
 
 -- what a syntax fault after so many tokens means
@@ -79,13 +78,12 @@ syntax-count : (tokens : List Token) (at : ℕ) (p : Stopped (has_some (classes 
 syntax-count tokens at p =
     let names = classes tokens in
     let len = terminals-length names tokens in
-    let within = p.within in
-    (
+    let within = p.within in (
       subst (λ n. p.count ≤ n) len within,
       begun names p.count tokens p.examples p.begun,
       λ l e. p.refused (subst (λ n. p.count < n) (sym len) l) (terminals names e.0) (suits-terminals names e.0) (one_on names (suc p.count) tokens e.0 (subst (λ n. IsFile names (take n tokens ++ e.0)) (one_more p.count) e.1)),
       λ l e. p.short (l ∙ sym len) e,
-      p.shallow
+      p.shallow,
     )
 
 pub syntax_is_first : SyntaxIsFirst
@@ -103,12 +101,11 @@ DepthAt tokens at = (at < length tokens) × IsBegun (classes tokens) (take (at +
 depth-count : (tokens : List Token) (at : ℕ) (p : Sunk (has_some (classes tokens)) (seen (classes tokens)) (example-admits (classes tokens) (plain-classes false tokens)) 0 (terminals (classes tokens) tokens) start at) → DepthAt tokens p.count
 depth-count tokens at p =
     let names = classes tokens in
-    let within = p.within in
-    (
+    let within = p.within in (
       subst (λ n. p.count < n) (terminals-length names tokens) within,
       subst (λ n. IsBegun names (take n tokens)) (sym (one_more p.count)) (begun names (suc p.count) tokens p.examples p.begun),
       p.deep,
-      p.shallow
+      p.shallow,
     )
 
 pub depth_is_first : DepthIsFirst

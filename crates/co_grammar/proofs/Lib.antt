@@ -1,4 +1,5 @@
 mod Appends
+mod Bounds
 mod Classes
 mod Exact
 mod Examples

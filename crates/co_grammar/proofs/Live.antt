@@ -68,11 +68,12 @@ module _ (has : Bool) (ex : Pattern → Terminal) (ok : (p : Pattern) → fits_c
   from_rule f g n [] s h rest r = never h
   from_rule f g n (q ∷ rs) s h rest r =
       elim (or_split (nat_eq (nonterminal_number q.of) (nonterminal_number n) && (fits_classes has q.head && grows f has q.body)) (living f has n rs) h) [
-        inl l ↦ (let a = and_split (nat_eq (nonterminal_number q.of) (nonterminal_number n)) (fits_classes has q.head && grows f has q.body) l in
-          let b = and_split (fits_classes has q.head) (grows f has q.body) a.1 in
-          let i = filled f g q.body rest b.1 r in
-          record { first = q.head; body = q.body; begins = (q, s q (inl refl), number-same q.of n a.0, ok q.head b.0, refl); others = i.examples; derives = i.derives })
-      | inr l ↦ from_rule f g n rs (λ x i. s x (inr i)) l rest r ]
+        | inl l ↦ (let a = and_split (nat_eq (nonterminal_number q.of) (nonterminal_number n)) (fits_classes has q.head && grows f has q.body) l in
+            let b = and_split (fits_classes has q.head) (grows f has q.body) a.1 in
+            let i = filled f g q.body rest b.1 r in
+            record { first = q.head; body = q.body; begins = (q, s q (inl refl), number-same q.of n a.0, ok q.head b.0, refl); others = i.examples; derives = i.derives })
+        | inr l ↦ from_rule f g n rs (λ x i. s x (inr i)) l rest r
+      ]
 
   lives-grows : (k : ℕ) (n : Nonterminal) → lives k has n ≡ true → Grows n
   lives-grows zero n h = never h
@@ -111,8 +112,9 @@ rule-live has r [] h s u = absurd s
 rule-live has r (q ∷ rs) h s u =
     let a = and_split (not (is_usable has q.body) || grows (live has) has q.body) (all_live has rs) h in
     elim s [
-      inl e ↦ subst (λ x. grows (live has) has x.body ≡ true) e (then_true (is_usable has q.body) (grows (live has) has q.body) a.0 (ap (λ x. is_usable has x.body) e ∙ u))
-    | inr k ↦ rule-live has r rs a.1 k u ]
+      | inl e ↦ subst (λ x. grows (live has) has x.body ≡ true) e (then_true (is_usable has q.body) (grows (live has) has q.body) a.0 (ap (λ x. is_usable has x.body) e ∙ u))
+      | inr k ↦ rule-live has r rs a.1 k u
+    ]
 
 body-live : (has : Bool) (n : Nonterminal) (t : Terminal) (body : List Symbol) → Begins n t body → is_usable has body ≡ true → grows (live has) has body ≡ true
 body-live has n t body b u =
@@ -125,21 +127,25 @@ lives-on has t (Close ∷ rest) after f h = lives-on has t rest after f h
 lives-on has t (One n ∷ rest) after f h =
     let a = and_split (live has n) (grows (live has) has rest) f in
     elim (put_some has n t rest None after (body_for has n t) refl h) [
-      body_on body b u i ↦ subst (λ s. grows (live has) has s ≡ true) (sym i) (grows-append (live has) has body rest (body-live has n t body b u) a.1)
-    | the_other o ↦ none_some o ]
+      | body_on body b u i ↦ subst (λ s. grows (live has) has s ≡ true) (sym i) (grows-append (live has) has body rest (body-live has n t body b u) a.1)
+      | the_other o ↦ none_some o
+    ]
 lives-on has t (Maybe n ∷ rest) after f h =
     elim (put_some has n t rest (step has t rest) after (body_for has n t) refl h) [
-      body_on body b u i ↦ subst (λ s. grows (live has) has s ≡ true) (sym i) (grows-append (live has) has body rest (body-live has n t body b u) f)
-    | the_other o ↦ lives-on has t rest after f o ]
+      | body_on body b u i ↦ subst (λ s. grows (live has) has s ≡ true) (sym i) (grows-append (live has) has body rest (body-live has n t body b u) f)
+      | the_other o ↦ lives-on has t rest after f o
+    ]
 lives-on has t (Many n ∷ rest) after f h =
     elim (put_some has n t (Many n ∷ rest) (step has t rest) after (body_for has n t) refl h) [
-      body_on body b u i ↦ subst (λ s. grows (live has) has s ≡ true) (sym i) (grows-append (live has) has body (Many n ∷ rest) (body-live has n t body b u) f)
-    | the_other o ↦ lives-on has t rest after f o ]
+      | body_on body b u i ↦ subst (λ s. grows (live has) has s ≡ true) (sym i) (grows-append (live has) has body (Many n ∷ rest) (body-live has n t body b u) f)
+      | the_other o ↦ lives-on has t rest after f o
+    ]
 lives-on has t (Greedy n p ∷ rest) after f h =
     let a = and_split (live has n) (grows (live has) has rest) f in
     elim (put_some has n t rest (cond (admits p t) None (step has t rest)) after (body_for has n t) refl h) [
-      body_on body b u i ↦ subst (λ s. grows (live has) has s ≡ true) (sym i) (grows-append (live has) has body rest (body-live has n t body b u) a.1)
-    | the_other o ↦ lives-on has t rest after a.1 (not_then (admits p t) (step has t rest) after o).1 ]
+      | body_on body b u i ↦ subst (λ s. grows (live has) has s ≡ true) (sym i) (grows-append (live has) has body rest (body-live has n t body b u) a.1)
+      | the_other o ↦ lives-on has t rest after a.1 (not_then (admits p t) (step has t rest) after o).1
+    ]
 
 -- ---- where no name is of a class
 
@@ -170,10 +176,12 @@ barren-rule r [] t h s e a n = absurd s
 barren-rule r (q ∷ rs) t h s e a n =
     let k = and_split (not (nat_eq (nonterminal_number q.of) (nonterminal_number nonterminal.ClassPath)) || (is_class_pattern q.head || list_any needs_class q.body)) (all_barren rs) h in
     elim s [
-      inl i ↦ subst (λ x. list_any needs_class x.body ≡ true) i (elim (or_split (is_class_pattern q.head) (list_any needs_class q.body) (then_true (nat_eq (nonterminal_number q.of) (nonterminal_number nonterminal.ClassPath)) (is_class_pattern q.head || list_any needs_class q.body) k.0 (ap (λ x. nat_eq (nonterminal_number x.of) (nonterminal_number nonterminal.ClassPath)) i ∙ e))) [
-        inl c ↦ absurd (not_both (is_class_name t) n (class-names q.head t c (ap (λ x. admits x.head t) i ∙ a)))
-      | inr b ↦ b ])
-    | inr l ↦ barren-rule r rs t k.1 l e a n ]
+      | inl i ↦ subst (λ x. list_any needs_class x.body ≡ true) i (elim (or_split (is_class_pattern q.head) (list_any needs_class q.body) (then_true (nat_eq (nonterminal_number q.of) (nonterminal_number nonterminal.ClassPath)) (is_class_pattern q.head || list_any needs_class q.body) k.0 (ap (λ x. nat_eq (nonterminal_number x.of) (nonterminal_number nonterminal.ClassPath)) i ∙ e))) [
+        | inl c ↦ absurd (not_both (is_class_name t) n (class-names q.head t c (ap (λ x. admits x.head t) i ∙ a)))
+        | inr b ↦ b
+      ])
+      | inr l ↦ barren-rule r rs t k.1 l e a n
+    ]
 
 none_in_rest : (body rest : List Symbol) → not (list_any needs_class (body ++ rest)) ≡ true → not (list_any needs_class rest) ≡ true
 none_in_rest [] rest h = h

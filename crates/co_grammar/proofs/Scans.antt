@@ -52,20 +52,24 @@ ends-on has t (Token p ∷ rest) after f h = subst (λ s. ends s ≡ true) (test
 ends-on has t (Close ∷ rest) after f h = ends-on has t rest after (ends-rest Close rest f) h
 ends-on has t (One n ∷ rest) after f h =
     elim (put_some has n t rest None after (body_for has n t) refl h) [
-      body_on body b u i ↦ subst (λ s. ends s ≡ true) (sym i) (ends-put body rest (One n) f refl)
-    | the_other o ↦ none_some o ]
+      | body_on body b u i ↦ subst (λ s. ends s ≡ true) (sym i) (ends-put body rest (One n) f refl)
+      | the_other o ↦ none_some o
+    ]
 ends-on has t (Maybe n ∷ rest) after f h =
     elim (put_some has n t rest (step has t rest) after (body_for has n t) refl h) [
-      body_on body b u i ↦ subst (λ s. ends s ≡ true) (sym i) (ends-put body rest (Maybe n) f refl)
-    | the_other o ↦ ends-on has t rest after (ends-rest (Maybe n) rest f) o ]
+      | body_on body b u i ↦ subst (λ s. ends s ≡ true) (sym i) (ends-put body rest (Maybe n) f refl)
+      | the_other o ↦ ends-on has t rest after (ends-rest (Maybe n) rest f) o
+    ]
 ends-on has t (Many n ∷ rest) after f h =
     elim (put_some has n t (Many n ∷ rest) (step has t rest) after (body_for has n t) refl h) [
-      body_on body b u i ↦ subst (λ s. ends s ≡ true) (sym i) (ends-put body (Many n ∷ rest) (Many n) f refl)
-    | the_other o ↦ ends-on has t rest after (ends-rest (Many n) rest f) o ]
+      | body_on body b u i ↦ subst (λ s. ends s ≡ true) (sym i) (ends-put body (Many n ∷ rest) (Many n) f refl)
+      | the_other o ↦ ends-on has t rest after (ends-rest (Many n) rest f) o
+    ]
 ends-on has t (Greedy n p ∷ rest) after f h =
     elim (put_some has n t rest (cond (admits p t) None (step has t rest)) after (body_for has n t) refl h) [
-      body_on body b u i ↦ subst (λ s. ends s ≡ true) (sym i) (ends-put body rest (Greedy n p) f refl)
-    | the_other o ↦ ends-on has t rest after (ends-rest (Greedy n p) rest f) (not_then (admits p t) (step has t rest) after o).1 ]
+      | body_on body b u i ↦ subst (λ s. ends s ≡ true) (sym i) (ends-put body rest (Greedy n p) f refl)
+      | the_other o ↦ ends-on has t rest after (ends-rest (Greedy n p) rest f) (not_then (admits p t) (step has t rest) after o).1
+    ]
 
 one_more : (s : Symbol) (rest : List Symbol) → ends (s ∷ rest) ≡ true → is_token s ≡ false → rest ≡ [] → ⊥
 one_more s [] h n e = never (sym n ∙ h)
@@ -115,9 +119,10 @@ pub accepted : (has : Bool) (at : ℕ) (ts : List Terminal) (stack : List Symbol
 accepted has at [] stack h = subst (λ s. Derives s []) (sym (ended-nil at stack h)) d.nothing
 accepted has at (t ∷ ts) stack h =
     elim (went at (step has t stack) (scanned_from has (at + 1) ts) (Ok tt) h) [
-      read after o b m ↦ sound has t stack after ts o (accepted has (at + 1) ts after m)
-    | refused o e ↦ ok_err (Ok tt) refl e
-    | deep after o b e ↦ ok_err (Ok tt) refl e ]
+      | read after o b m ↦ sound has t stack after ts o (accepted has (at + 1) ts after m)
+      | refused o e ↦ ok_err (Ok tt) refl e
+      | deep after o b e ↦ ok_err (Ok tt) refl e
+    ]
 
 -- ---- depths
 
@@ -141,9 +146,10 @@ pub accepted-shallow : (has : Bool) (at : ℕ) (ts : List Terminal) (stack : Lis
 accepted-shallow has at [] stack h = shallow-none []
 accepted-shallow has at (t ∷ ts) stack h =
     elim (went at (step has t stack) (scanned_from has (at + 1) ts) (Ok tt) h) [
-      read after o b m ↦ shallow-step has t ts stack after (length ts) o b (accepted-shallow has (at + 1) ts after m)
-    | refused o e ↦ ok_err (Ok tt) refl e
-    | deep after o b e ↦ ok_err (Ok tt) refl e ]
+      | read after o b m ↦ shallow-step has t ts stack after (length ts) o b (accepted-shallow has (at + 1) ts after m)
+      | refused o e ↦ ok_err (Ok tt) refl e
+      | deep after o b e ↦ ok_err (Ok tt) refl e
+    ]
 
 -- ---- faults
 
@@ -204,7 +210,7 @@ module _ (has : Bool) (ex : Pattern → Terminal) (ok : (p : Pattern) → fits_c
         begun = sound has t stack after (take p.count ts ++ map ex p.examples) o p.begun;
         refused = λ l more m e. p.refused (omega (arith, l)) more m (one_step t stack after (take (suc p.count) ts ++ more) g (suits-taken (suc p.count) ts more s m) o e);
         short = λ l e. p.short (omega (arith, l)) (one_step t stack after ts g s o e);
-        shallow = shallow-step has t ts stack after p.count o b p.shallow
+        shallow = shallow-step has t ts stack after p.count o b p.shallow;
       }
 
   pub stopped : (at i : ℕ) (ts : List Terminal) (stack : List Symbol) → Good has stack → Suits has ts → scanned_from has at ts stack ≡ Err (Syntax i) → Stopped at ts stack i
@@ -219,23 +225,24 @@ module _ (has : Bool) (ex : Pattern → Terminal) (ok : (p : Pattern) → fits_c
         begun = f.derives;
         refused = λ l more m e. absurd (omega (arith, l));
         short = λ l e. k.some (nothing-left stack g.ends e);
-        shallow = shallow-none []
+        shallow = shallow-none [];
       }
   stopped at i (t ∷ ts) stack g s h =
       elim (went at (step has t stack) (scanned_from has (at + 1) ts) (Err (Syntax i)) h) [
-        read after o b m ↦ stopped-step at i t ts stack after g s.1 o b (stopped (at + 1) i ts after (good-on has t stack after g o) s.1 m)
-      | refused o e ↦ (let f = completed has ex ok stack g.lives in
-          record {
-            count = 0;
-            is = syntax_same at i (Err (Syntax i)) refl e ∙ omega arith;
-            within = omega arith;
-            examples = f.examples;
-            begun = f.derives;
-            refused = λ l more m d. no_step t stack more g m o d;
-            short = λ l d. absurd (omega (arith, l));
-            shallow = shallow-none (depths_from has (t ∷ ts) stack)
-          })
-      | deep after o b e ↦ syntax_deep at i (Err (Syntax i)) refl e ]
+        | read after o b m ↦ stopped-step at i t ts stack after g s.1 o b (stopped (at + 1) i ts after (good-on has t stack after g o) s.1 m)
+        | refused o e ↦ (let f = completed has ex ok stack g.lives in
+            record {
+              count = 0;
+              is = syntax_same at i (Err (Syntax i)) refl e ∙ omega arith;
+              within = omega arith;
+              examples = f.examples;
+              begun = f.derives;
+              refused = λ l more m d. no_step t stack more g m o d;
+              short = λ l d. absurd (omega (arith, l));
+              shallow = shallow-none (depths_from has (t ∷ ts) stack);
+            })
+        | deep after o b e ↦ syntax_deep at i (Err (Syntax i)) refl e
+      ]
 
   -- too many levels after so many terminals and one
   pub record Sunk (at : ℕ) (ts : List Terminal) (stack : List Symbol) (i : ℕ) : Type 0 where
@@ -251,27 +258,28 @@ module _ (has : Bool) (ex : Pattern → Terminal) (ok : (p : Pattern) → fits_c
   sunk at i [] stack g h = ended-deep at i stack h
   sunk at i (t ∷ ts) stack g h =
       elim (went at (step has t stack) (scanned_from has (at + 1) ts) (Err (TooDeep i)) h) [
-        read after o b m ↦ (let p = sunk (at + 1) i ts after (good-on has t stack after g o) m in
-          record {
-            count = suc p.count;
-            is = p.is ∙ omega arith;
-            within = let w = p.within in omega (arith, w);
-            examples = p.examples;
-            begun = sound has t stack after (take (suc p.count) ts ++ map ex p.examples) o p.begun;
-            deep = subst (λ x. 200 < get_or (depths_on x (depths_from has ts)) (suc p.count) 0) (sym o) p.deep;
-            shallow = shallow-step has t ts stack after p.count o b p.shallow
-          })
-      | refused o e ↦ syntax_deep i at (Err (TooDeep i)) e refl
-      | deep after o b e ↦ (let f = completed has ex ok after (good-on has t stack after g o).lives in
-          record {
-            count = 0;
-            is = deep_same at i (Err (TooDeep i)) refl e ∙ omega arith;
-            within = omega arith;
-            examples = f.examples;
-            begun = sound has t stack after (map ex f.examples) o f.derives;
-            deep = subst (λ x. 200 < get_or (depths_on x (depths_from has ts)) 0 0) (sym o) (too_deep (levels after) b);
-            shallow = shallow-none (depths_from has (t ∷ ts) stack)
-          }) ]
+        | read after o b m ↦ (let p = sunk (at + 1) i ts after (good-on has t stack after g o) m in
+            record {
+              count = suc p.count;
+              is = p.is ∙ omega arith;
+              within = let w = p.within in omega (arith, w);
+              examples = p.examples;
+              begun = sound has t stack after (take (suc p.count) ts ++ map ex p.examples) o p.begun;
+              deep = subst (λ x. 200 < get_or (depths_on x (depths_from has ts)) (suc p.count) 0) (sym o) p.deep;
+              shallow = shallow-step has t ts stack after p.count o b p.shallow;
+            })
+        | refused o e ↦ syntax_deep i at (Err (TooDeep i)) e refl
+        | deep after o b e ↦ (let f = completed has ex ok after (good-on has t stack after g o).lives in
+            record {
+              count = 0;
+              is = deep_same at i (Err (TooDeep i)) refl e ∙ omega arith;
+              within = omega arith;
+              examples = f.examples;
+              begun = sound has t stack after (map ex f.examples) o f.derives;
+              deep = subst (λ x. 200 < get_or (depths_on x (depths_from has ts)) 0 0) (sym o) (too_deep (levels after) b);
+              shallow = shallow-none (depths_from has (t ∷ ts) stack);
+            })
+      ]
 
 -- ---- a derivable list that opens no more levels than may be is accepted
 

@@ -1,5 +1,5 @@
 -- The machine that reads a list of terminals with a stack of symbols, the first symbol on top.
-use Rattle.std.specs.Prelude.{◌≡◌, ℕ, ◌+◌, Bool, true, false, not, ◌&&◌, ◌||◌, if◌then◌else◌, nat_eq, nat_lt, List, [], ◌∷◌, ◌++◌, Option, Some, None, Result, Ok, Err}
+use Rattle.std.specs.Prelude.{◌≡◌, ℕ, ◌+◌, Bool, true, false, not, ◌&&◌, ◌||◌, if◌then◌else◌, nat_eq, nat_le, List, [], ◌∷◌, ◌++◌, Option, Some, None, Result, Ok, Err}
 use Rattle.std.specs.Borrow.{Bor}
 use Rattle.std.specs.List.{list_any}
 use Rattle.co_grammar.specs.declared.symbol.Nonterminal.{Nonterminal}
@@ -37,6 +37,10 @@ body_for has_classes n t = body_among has_classes n t rules
 abbrev pub Finds : Option (Bor (List Symbol)) → Option (List Symbol) → Type 0
 Finds None told = told ≡ None
 Finds (Some body) told = told ≡ Some body.now
+
+-- whether the nonterminal stands between these in the list of all
+abbrev pub is_between : Nonterminal → Nonterminal → Nonterminal → Bool
+is_between n first last = nat_le (nonterminal_number first) (nonterminal_number n) && nat_le (nonterminal_number n) (nonterminal_number last)
 
 abbrev pub put : Option (List Symbol) → List Symbol → Option (List Symbol) → Option (List Symbol)
 put (Some body) rest other = Some (body ++ rest)

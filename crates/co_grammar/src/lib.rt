@@ -10,6 +10,8 @@ mod stack;
 mod symbol;
 mod table;
 mod terminal;
+#[cfg(test)]
+mod tests;
 
 pub use fault::Fault;
 pub use machine::{body_for, step};

@@ -53,10 +53,19 @@ fn body_among(
     None
 }
 
+fn is_between(of: Nonterminal, first: Nonterminal, last: Nonterminal) -> bool
+    ensures { result ≡ spec.is_between of first last }
+{
+    first as u8 <= of as u8 && of as u8 <= last as u8
+}
+
 #[tactic(auto, unfolding(crate::specs::Rule::in_file))]
 fn in_file(has_classes: bool, of: Nonterminal, terminal: Terminal) -> Option<&'static [Symbol]>
     ensures { spec.Finds result (spec.body_among has_classes of terminal in_file) }
 {
+    if !is_between(of, Nonterminal::Item, Nonterminal::Const) {
+        return None;
+    }
     body_among(has_classes, of, terminal, &FILE)
 }
 
@@ -64,6 +73,9 @@ fn in_file(has_classes: bool, of: Nonterminal, terminal: Terminal) -> Option<&'s
 fn in_class(has_classes: bool, of: Nonterminal, terminal: Terminal) -> Option<&'static [Symbol]>
     ensures { spec.Finds result (spec.body_among has_classes of terminal in_class) }
 {
+    if !is_between(of, Nonterminal::Member, Nonterminal::DestructorBody) {
+        return None;
+    }
     body_among(has_classes, of, terminal, &CLASS)
 }
 
@@ -71,6 +83,9 @@ fn in_class(has_classes: bool, of: Nonterminal, terminal: Terminal) -> Option<&'
 fn in_type(has_classes: bool, of: Nonterminal, terminal: Terminal) -> Option<&'static [Symbol]>
     ensures { spec.Finds result (spec.body_among has_classes of terminal in_type) }
 {
+    if !is_between(of, Nonterminal::Parameters, Nonterminal::Pointers) {
+        return None;
+    }
     body_among(has_classes, of, terminal, &TYPE)
 }
 
@@ -78,6 +93,9 @@ fn in_type(has_classes: bool, of: Nonterminal, terminal: Terminal) -> Option<&'s
 fn in_statement(has_classes: bool, of: Nonterminal, terminal: Terminal) -> Option<&'static [Symbol]>
     ensures { spec.Finds result (spec.body_among has_classes of terminal in_statement) }
 {
+    if !is_between(of, Nonterminal::Block, Nonterminal::ForHead) {
+        return None;
+    }
     body_among(has_classes, of, terminal, &STATEMENT)
 }
 
@@ -85,6 +103,9 @@ fn in_statement(has_classes: bool, of: Nonterminal, terminal: Terminal) -> Optio
 fn in_head(has_classes: bool, of: Nonterminal, terminal: Terminal) -> Option<&'static [Symbol]>
     ensures { spec.Finds result (spec.body_among has_classes of terminal in_head) }
 {
+    if !is_between(of, Nonterminal::ForInit, Nonterminal::CatchParameter) {
+        return None;
+    }
     body_among(has_classes, of, terminal, &HEAD)
 }
 
@@ -92,6 +113,9 @@ fn in_head(has_classes: bool, of: Nonterminal, terminal: Terminal) -> Option<&'s
 fn in_local(has_classes: bool, of: Nonterminal, terminal: Terminal) -> Option<&'static [Symbol]>
     ensures { spec.Finds result (spec.body_among has_classes of terminal in_local) }
 {
+    if !is_between(of, Nonterminal::AfterBuiltin, Nonterminal::LocalRest) {
+        return None;
+    }
     body_among(has_classes, of, terminal, &LOCAL)
 }
 
@@ -99,6 +123,9 @@ fn in_local(has_classes: bool, of: Nonterminal, terminal: Terminal) -> Option<&'
 fn in_value(has_classes: bool, of: Nonterminal, terminal: Terminal) -> Option<&'static [Symbol]>
     ensures { spec.Finds result (spec.body_among has_classes of terminal in_value) }
 {
+    if !is_between(of, Nonterminal::Value, Nonterminal::Expression) {
+        return None;
+    }
     body_among(has_classes, of, terminal, &VALUE)
 }
 
@@ -106,6 +133,9 @@ fn in_value(has_classes: bool, of: Nonterminal, terminal: Terminal) -> Option<&'
 fn in_argument(has_classes: bool, of: Nonterminal, terminal: Terminal) -> Option<&'static [Symbol]>
     ensures { spec.Finds result (spec.body_among has_classes of terminal in_argument) }
 {
+    if !is_between(of, Nonterminal::Arguments, Nonterminal::FirstPath) {
+        return None;
+    }
     body_among(has_classes, of, terminal, &ARGUMENT)
 }
 
@@ -113,6 +143,9 @@ fn in_argument(has_classes: bool, of: Nonterminal, terminal: Terminal) -> Option
 fn in_unary(has_classes: bool, of: Nonterminal, terminal: Terminal) -> Option<&'static [Symbol]>
     ensures { spec.Finds result (spec.body_among has_classes of terminal in_unary) }
 {
+    if !is_between(of, Nonterminal::Unary, Nonterminal::TextArgument) {
+        return None;
+    }
     body_among(has_classes, of, terminal, &UNARY)
 }
 
@@ -120,6 +153,9 @@ fn in_unary(has_classes: bool, of: Nonterminal, terminal: Terminal) -> Option<&'
 fn in_operand(has_classes: bool, of: Nonterminal, terminal: Terminal) -> Option<&'static [Symbol]>
     ensures { spec.Finds result (spec.body_among has_classes of terminal in_operand) }
 {
+    if !is_between(of, Nonterminal::Built, Nonterminal::Reference) {
+        return None;
+    }
     body_among(has_classes, of, terminal, &OPERAND)
 }
 

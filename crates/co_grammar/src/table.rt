@@ -71,7 +71,7 @@ macro_rules! pattern {
     ("new or delete") => { Pattern::Allocation };
     ("text") => { Pattern::Spelled(Known::Text) };
     ("run function") => { Pattern::RunFunction };
-    ("text") => { Pattern::Text };
+    ("text literal") => { Pattern::Text };
     ("&") => { Pattern::Punctuator(Mark::And) };
 }
 
@@ -537,7 +537,7 @@ pub const UNARY: [(Nonterminal, Pattern, &[Symbol]); 22] = rules! {
         "run function" => [],
     }
     TextArgument {
-        "(" => ["text" ")" Close],
+        "(" => ["text literal" ")" Close],
     }
 };
 
