@@ -1,11 +1,11 @@
 -- The rule that is found in two lists, one after the other.
 use Rattle.std.proofs.Common.{◌≡◌, Bool, true, false, cond, List, [], ◌∷◌, ◌++◌, Option, Some, None, refl, ◌∙◌}
 use Rattle.std.specs.Borrow.{Bor}
-use Rattle.co_grammar.specs.declared.symbol.Nonterminal.{Nonterminal}
-use Rattle.co_grammar.specs.declared.symbol.Symbol.{Symbol}
-use Rattle.co_grammar.specs.declared.symbol.Terminal.{Terminal}
+use Rattle.co_rules.specs.declared.symbol.Nonterminal.{Nonterminal}
+use Rattle.co_rules.specs.declared.symbol.Symbol.{Symbol}
+use Rattle.co_rules.specs.declared.symbol.Terminal.{Terminal}
 use Rattle.co_grammar.specs.Machine.{applies, body_among, Finds}
-use Rattle.co_grammar.specs.Rule.{Rule}
+use Rattle.co_rules.specs.Rule.{Rule}
 
 either_first : (b : Bool) (body found : List Symbol) (one both : Option (List Symbol)) → (one ≡ Some found → both ≡ Some found) → cond b (Some body) one ≡ Some found → cond b (Some body) both ≡ Some found
 either_first true body found one both h e = e

@@ -3,13 +3,13 @@ use Rattle.std.proofs.Common.{◌≡◌, ℕ, zero, suc, ◌+◌, ◌<◌, ◌�
 use Rattle.co_base.specs.declared.span.Span.{Span}
 use Rattle.co_lex.specs.declared.token.Token.{Token}
 use Rattle.co_grammar.specs.declared.fault.Fault.TheVariants.{Syntax, TooDeep}
-use Rattle.co_grammar.specs.declared.symbol.Pattern.{Pattern}
-use Rattle.co_grammar.specs.declared.symbol.Terminal.{Terminal}
+use Rattle.co_rules.specs.declared.symbol.Pattern.{Pattern}
+use Rattle.co_rules.specs.declared.symbol.Terminal.{Terminal}
 use Rattle.co_grammar.specs.Derives.{Derives}
 use Rattle.co_grammar.specs.Laws.{IsFile, IsBegun, IsShallow, depths, AcceptsFiles, SyntaxIsFirst, DepthIsFirst}
 use Rattle.co_grammar.specs.Names.{classes, has_some}
-use Rattle.co_grammar.specs.Pattern.{admits}
-use Rattle.co_grammar.specs.Rule.{start}
+use Rattle.co_rules.specs.Pattern.{admits}
+use Rattle.co_rules.specs.Rule.{start}
 use Rattle.co_grammar.specs.Scan.{scanned, scanned_from}
 use Rattle.co_grammar.specs.Terminal.{terminal_of, terminals}
 use Rattle.co_grammar.proofs.Examples.{ArePlain, example, example-admits, plain-classes, suits-terminals}

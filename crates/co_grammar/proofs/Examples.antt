@@ -9,14 +9,14 @@ use Rattle.co_lex.specs.declared.token.Token.{Token}
 use Rattle.co_lex.specs.declared.token.TokenKind.{TokenKind}
 use Rattle.co_lex.specs.declared.token.TokenKind.TheVariants as kind
 use Rattle.co_lex.specs.declared.token.Word.TheVariants as word
-use Rattle.co_grammar.specs.declared.symbol.Known.{Known}
-use Rattle.co_grammar.specs.declared.symbol.Known.TheVariants as known_name
-use Rattle.co_grammar.specs.declared.symbol.Pattern.{Pattern}
-use Rattle.co_grammar.specs.declared.symbol.Pattern.TheVariants as pattern
-use Rattle.co_grammar.specs.declared.symbol.Terminal.{Terminal}
-use Rattle.co_grammar.specs.declared.symbol.Terminal.TheVariants as terminal
+use Rattle.co_rules.specs.declared.symbol.Known.{Known}
+use Rattle.co_rules.specs.declared.symbol.Known.TheVariants as known_name
+use Rattle.co_rules.specs.declared.symbol.Pattern.{Pattern}
+use Rattle.co_rules.specs.declared.symbol.Pattern.TheVariants as pattern
+use Rattle.co_rules.specs.declared.symbol.Terminal.{Terminal}
+use Rattle.co_rules.specs.declared.symbol.Terminal.TheVariants as terminal
 use Rattle.co_grammar.specs.Names.{known, is_class, has_some, named, introduces, classes_from, classes}
-use Rattle.co_grammar.specs.Pattern.{admits, is_plain, word_number, mark_number, known_number}
+use Rattle.co_rules.specs.Pattern.{admits, is_plain, word_number, mark_number, known_number}
 use Rattle.co_grammar.specs.Terminal.{terminal_of, terminals}
 use Rattle.co_grammar.proofs.Live.{Suits, is_class_name}
 use Rattle.co_grammar.proofs.Lives.{fits_classes}

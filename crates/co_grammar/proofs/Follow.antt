@@ -3,18 +3,18 @@ use Rattle.std.specs.Prelude.{◌≡◌, ℕ, ◌+◌, Bool, true, false, not, �
 use Rattle.std.specs.List.{list_any, list_all}
 use Rattle.co_lex.specs.declared.token.Mark.TheVariants as mark
 use Rattle.co_lex.specs.declared.token.Word.TheVariants as word
-use Rattle.co_grammar.specs.declared.symbol.Known.{Known}
-use Rattle.co_grammar.specs.declared.symbol.Known.TheVariants as known
-use Rattle.co_grammar.specs.declared.symbol.Nonterminal.{Nonterminal}
-use Rattle.co_grammar.specs.declared.symbol.Nonterminal.TheVariants as nonterminal
-use Rattle.co_grammar.specs.declared.symbol.Pattern.{Pattern}
-use Rattle.co_grammar.specs.declared.symbol.Pattern.TheVariants as pattern
-use Rattle.co_grammar.specs.declared.symbol.Symbol.{Symbol}
-use Rattle.co_grammar.specs.declared.symbol.Symbol.TheVariants.{Token, One, Maybe, Many, Greedy, Close}
-use Rattle.co_grammar.specs.declared.symbol.Terminal.{Terminal}
-use Rattle.co_grammar.specs.declared.symbol.Terminal.TheVariants as terminal
-use Rattle.co_grammar.specs.Pattern.{admits_word, admits_mark, words, marks, names, suits, is_literal, is_text, is_end, word_number, mark_number, known_number, nonterminal_number}
-use Rattle.co_grammar.specs.Rule.{Rule, rules}
+use Rattle.co_rules.specs.declared.symbol.Known.{Known}
+use Rattle.co_rules.specs.declared.symbol.Known.TheVariants as known
+use Rattle.co_rules.specs.declared.symbol.Nonterminal.{Nonterminal}
+use Rattle.co_rules.specs.declared.symbol.Nonterminal.TheVariants as nonterminal
+use Rattle.co_rules.specs.declared.symbol.Pattern.{Pattern}
+use Rattle.co_rules.specs.declared.symbol.Pattern.TheVariants as pattern
+use Rattle.co_rules.specs.declared.symbol.Symbol.{Symbol}
+use Rattle.co_rules.specs.declared.symbol.Symbol.TheVariants.{Token, One, Maybe, Many, Greedy, Close}
+use Rattle.co_rules.specs.declared.symbol.Terminal.{Terminal}
+use Rattle.co_rules.specs.declared.symbol.Terminal.TheVariants as terminal
+use Rattle.co_rules.specs.Pattern.{admits_word, admits_mark, words, marks, names, suits, is_literal, is_text, is_end, word_number, mark_number, known_number, nonterminal_number}
+use Rattle.co_rules.specs.Rule.{Rule, rules}
 
 -- the number of a terminal
 abbrev pub number : Terminal → ℕ

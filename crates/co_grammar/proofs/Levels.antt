@@ -1,6 +1,6 @@
 -- A stack has no more levels than symbols.
 use Rattle.std.proofs.Common.{ℕ, ◌+◌, ◌≤◌, Bool, true, false, cond, List, [], ◌∷◌, length, arith}
-use Rattle.co_grammar.specs.declared.symbol.Symbol.{Symbol}
+use Rattle.co_rules.specs.declared.symbol.Symbol.{Symbol}
 use Rattle.co_grammar.specs.Machine.{is_close, levels}
 
 one_more : (b : Bool) (n m : ℕ) → n ≤ m → cond b (n + 1) n ≤ m + 1

@@ -1,14 +1,14 @@
 -- The test that each nonterminal derives some list.
 use Rattle.std.specs.Prelude.{ℕ, zero, suc, Bool, true, false, not, ◌&&◌, ◌||◌, nat_eq, List, [], ◌∷◌}
-use Rattle.co_grammar.specs.declared.symbol.Nonterminal.{Nonterminal}
-use Rattle.co_grammar.specs.declared.symbol.Nonterminal.TheVariants as nonterminal
-use Rattle.co_grammar.specs.declared.symbol.Pattern.{Pattern}
-use Rattle.co_grammar.specs.declared.symbol.Pattern.TheVariants as pattern
-use Rattle.co_grammar.specs.declared.symbol.Symbol.{Symbol}
-use Rattle.co_grammar.specs.declared.symbol.Symbol.TheVariants.{Token, One, Maybe, Many, Greedy, Close}
+use Rattle.co_rules.specs.declared.symbol.Nonterminal.{Nonterminal}
+use Rattle.co_rules.specs.declared.symbol.Nonterminal.TheVariants as nonterminal
+use Rattle.co_rules.specs.declared.symbol.Pattern.{Pattern}
+use Rattle.co_rules.specs.declared.symbol.Pattern.TheVariants as pattern
+use Rattle.co_rules.specs.declared.symbol.Symbol.{Symbol}
+use Rattle.co_rules.specs.declared.symbol.Symbol.TheVariants.{Token, One, Maybe, Many, Greedy, Close}
 use Rattle.co_grammar.specs.Machine.{needs_class, is_usable}
-use Rattle.co_grammar.specs.Pattern.{nonterminal_number}
-use Rattle.co_grammar.specs.Rule.{Rule, rules}
+use Rattle.co_rules.specs.Pattern.{nonterminal_number}
+use Rattle.co_rules.specs.Rule.{Rule, rules}
 use Rattle.std.specs.List.{list_any}
 
 abbrev pub is_class_pattern : Pattern → Bool

@@ -3,17 +3,17 @@ use Rattle.std.proofs.Common.{◌≡◌, ℕ, Bool, true, false, not, ◌&&◌, 
 use Rattle.std.specs.List.{list_any}
 use Rattle.co_lex.specs.declared.token.Mark.{Mark}
 use Rattle.co_lex.specs.declared.token.Word.{Word}
-use Rattle.co_grammar.specs.declared.symbol.Nonterminal.{Nonterminal}
-use Rattle.co_grammar.specs.declared.symbol.Nonterminal.TheVariants as nonterminal
-use Rattle.co_grammar.specs.declared.symbol.Pattern.{Pattern}
-use Rattle.co_grammar.specs.declared.symbol.Pattern.TheVariants as pattern
-use Rattle.co_grammar.specs.declared.symbol.Symbol.{Symbol}
-use Rattle.co_grammar.specs.declared.symbol.Terminal.{Terminal}
-use Rattle.co_grammar.specs.declared.symbol.Terminal.TheVariants as terminal
+use Rattle.co_rules.specs.declared.symbol.Nonterminal.{Nonterminal}
+use Rattle.co_rules.specs.declared.symbol.Nonterminal.TheVariants as nonterminal
+use Rattle.co_rules.specs.declared.symbol.Pattern.{Pattern}
+use Rattle.co_rules.specs.declared.symbol.Pattern.TheVariants as pattern
+use Rattle.co_rules.specs.declared.symbol.Symbol.{Symbol}
+use Rattle.co_rules.specs.declared.symbol.Terminal.{Terminal}
+use Rattle.co_rules.specs.declared.symbol.Terminal.TheVariants as terminal
 use Rattle.co_grammar.specs.Derives.{Begins}
 use Rattle.co_grammar.specs.Machine.{needs_class, applies, body_among, body_for}
-use Rattle.co_grammar.specs.Pattern.{admits, words, marks, names, suits, word_number, mark_number, known_number, nonterminal_number}
-use Rattle.co_grammar.specs.Rule.{Rule, rules, Stands}
+use Rattle.co_rules.specs.Pattern.{admits, words, marks, names, suits, word_number, mark_number, known_number, nonterminal_number}
+use Rattle.co_rules.specs.Rule.{Rule, rules, Stands}
 use Rattle.co_grammar.proofs.Follow.{number, numbers, heads, heads_among, follow, fits, fit, alone, distinct, covers, covered, none_in}
 use Rattle.co_grammar.proofs.Numbers.{admits-number}
 use Rattle.co_grammar.proofs.Places.{number-same}

@@ -3,16 +3,16 @@ use Rattle.std.proofs.Common.{◌≡◌, ℕ, zero, suc, ◌+◌, ◌<◌, ◌�
 use Rattle.std.proofs.lemmas.Bool.Decides.{nat_tests}
 use Rattle.co_grammar.specs.declared.fault.Fault.{Fault}
 use Rattle.co_grammar.specs.declared.fault.Fault.TheVariants.{Syntax, TooDeep}
-use Rattle.co_grammar.specs.declared.symbol.Pattern.{Pattern}
-use Rattle.co_grammar.specs.declared.symbol.Symbol.{Symbol}
-use Rattle.co_grammar.specs.declared.symbol.Symbol.TheVariants.{Token, One, Maybe, Many, Greedy, Close}
-use Rattle.co_grammar.specs.declared.symbol.Terminal.{Terminal}
+use Rattle.co_rules.specs.declared.symbol.Pattern.{Pattern}
+use Rattle.co_rules.specs.declared.symbol.Symbol.{Symbol}
+use Rattle.co_rules.specs.declared.symbol.Symbol.TheVariants.{Token, One, Maybe, Many, Greedy, Close}
+use Rattle.co_rules.specs.declared.symbol.Terminal.{Terminal}
 use Rattle.co_grammar.specs.Derives as d
 use Rattle.co_grammar.specs.Derives.{Derives}
 use Rattle.co_grammar.specs.Laws.{depths_from, depths_on, IsShallow}
 use Rattle.co_grammar.specs.Machine.{step, levels, body_for}
-use Rattle.co_grammar.specs.Pattern.{admits}
-use Rattle.co_grammar.specs.Rule.{start}
+use Rattle.co_rules.specs.Pattern.{admits}
+use Rattle.co_rules.specs.Rule.{start}
 use Rattle.co_grammar.specs.Scan.{go_on, ended, scanned_from}
 use Rattle.co_grammar.proofs.Fits.{nothing, Fits}
 use Rattle.co_grammar.proofs.Live.{Filled, completed, lives-on, Suits, suits-plain}

@@ -1,7 +1,7 @@
 use Rattle.std.proofs.Common.{◌≡◌, Bool, true, false, not, ◌||◌, refl}
 use Rattle.std.specs.List.{list_all}
-use Rattle.co_grammar.specs.declared.symbol.Nonterminal.TheVariants as nonterminal
-use Rattle.co_grammar.specs.Rule.{rules, start, in_file, in_class, in_type, in_statement, in_head, in_local, in_value, in_argument, in_unary, in_operand, from_file, from_class, from_type, from_statement, from_head, from_local, from_value, from_argument, from_unary}
+use Rattle.co_rules.specs.declared.symbol.Nonterminal.TheVariants as nonterminal
+use Rattle.co_rules.specs.Rule.{rules, start, in_file, in_class, in_type, in_statement, in_head, in_local, in_value, in_argument, in_unary, in_operand, from_file, from_class, from_type, from_statement, from_head, from_local, from_value, from_argument, from_unary}
 use Rattle.co_grammar.proofs.Lives.{grows, lives, live, all_live, all_barren}
 use Rattle.co_grammar.proofs.Places.{every}
 use Rattle.co_grammar.proofs.Follow.{fit, fits, distinct, numbers, heads, follow}

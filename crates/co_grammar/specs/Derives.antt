@@ -1,12 +1,12 @@
 -- Which lists of terminals a list of symbols derives, by the rules alone.
 use Rattle.std.specs.Prelude.{◌≡◌, true, false, List, [], ◌∷◌, ◌++◌}
-use Rattle.co_grammar.specs.declared.symbol.Nonterminal.{Nonterminal}
-use Rattle.co_grammar.specs.declared.symbol.Pattern.{Pattern}
-use Rattle.co_grammar.specs.declared.symbol.Symbol.{Symbol}
-use Rattle.co_grammar.specs.declared.symbol.Symbol.TheVariants.{Token, One, Maybe, Many, Greedy, Close}
-use Rattle.co_grammar.specs.declared.symbol.Terminal.{Terminal}
-use Rattle.co_grammar.specs.Pattern.{admits}
-use Rattle.co_grammar.specs.Rule.{Rule, rules, Stands}
+use Rattle.co_rules.specs.declared.symbol.Nonterminal.{Nonterminal}
+use Rattle.co_rules.specs.declared.symbol.Pattern.{Pattern}
+use Rattle.co_rules.specs.declared.symbol.Symbol.{Symbol}
+use Rattle.co_rules.specs.declared.symbol.Symbol.TheVariants.{Token, One, Maybe, Many, Greedy, Close}
+use Rattle.co_rules.specs.declared.symbol.Terminal.{Terminal}
+use Rattle.co_rules.specs.Pattern.{admits}
+use Rattle.co_rules.specs.Rule.{Rule, rules, Stands}
 
 -- A rule of the nonterminal begins with the terminal and goes on with the body.
 abbrev pub Begins : Nonterminal → Terminal → List Symbol → Type 0

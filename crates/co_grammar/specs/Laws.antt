@@ -3,12 +3,12 @@ use Rattle.std.specs.Prelude.{◌≡◌, ℕ, ◌+◌, ◌<◌, ◌≤◌, Bool,
 use Rattle.co_lex.specs.declared.token.Token.{Token}
 use Rattle.co_grammar.specs.declared.fault.Fault.TheVariants.{Syntax, TooDeep}
 use Rattle.co_grammar.specs.declared.scanner.TheConstants.{MOST_LEVELS}
-use Rattle.co_grammar.specs.declared.symbol.Symbol.{Symbol}
-use Rattle.co_grammar.specs.declared.symbol.Terminal.{Terminal}
+use Rattle.co_rules.specs.declared.symbol.Symbol.{Symbol}
+use Rattle.co_rules.specs.declared.symbol.Terminal.{Terminal}
 use Rattle.co_grammar.specs.Derives.{Derives}
 use Rattle.co_grammar.specs.Machine.{step, levels}
 use Rattle.co_grammar.specs.Names.{classes, has_some}
-use Rattle.co_grammar.specs.Rule.{start}
+use Rattle.co_rules.specs.Rule.{start}
 use Rattle.co_grammar.specs.Scan.{scanned}
 use Rattle.co_grammar.specs.Terminal.{terminals}
 

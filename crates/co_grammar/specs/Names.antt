@@ -11,9 +11,9 @@ use Rattle.co_lex.specs.declared.token.TokenKind.TheVariants as kind
 use Rattle.co_lex.specs.declared.token.Word.TheVariants as word
 use Rattle.co_grammar.specs.declared.names.ClassNames.{ClassNames}
 use Rattle.co_grammar.specs.declared.names.TheConstants.{SPELLINGS}
-use Rattle.co_grammar.specs.declared.symbol.Known.{Known}
-use Rattle.co_grammar.specs.declared.symbol.Known.TheVariants.{Other}
-use Rattle.co_grammar.specs.Pattern.{is_plain}
+use Rattle.co_rules.specs.declared.symbol.Known.{Known}
+use Rattle.co_rules.specs.declared.symbol.Known.TheVariants.{Other}
+use Rattle.co_rules.specs.Pattern.{is_plain}
 
 abbrev pub lookup : List (List ℕ × Known) → List ℕ → Known
 lookup [] name = Other

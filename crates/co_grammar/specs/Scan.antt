@@ -4,11 +4,11 @@ use Rattle.co_lex.specs.declared.token.Token.{Token}
 use Rattle.co_grammar.specs.declared.fault.Fault.{Fault}
 use Rattle.co_grammar.specs.declared.fault.Fault.TheVariants.{Syntax, TooDeep, NoMemory}
 use Rattle.co_grammar.specs.declared.scanner.TheConstants.{MOST_LEVELS}
-use Rattle.co_grammar.specs.declared.symbol.Symbol.{Symbol}
-use Rattle.co_grammar.specs.declared.symbol.Terminal.{Terminal}
+use Rattle.co_rules.specs.declared.symbol.Symbol.{Symbol}
+use Rattle.co_rules.specs.declared.symbol.Terminal.{Terminal}
 use Rattle.co_grammar.specs.Machine.{step, levels}
 use Rattle.co_grammar.specs.Names.{classes, has_some}
-use Rattle.co_grammar.specs.Rule.{start}
+use Rattle.co_rules.specs.Rule.{start}
 use Rattle.co_grammar.specs.Terminal.{terminals}
 
 -- the end of the terminals: the file has ended too, or the next token, of which there is none, is no part of one

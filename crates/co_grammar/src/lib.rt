@@ -1,23 +1,20 @@
-//! The grammar.
+//! Whether a list of tokens is a file of the language, and where it is none, the first token that no file has there.
 #![tactic(auto)]
 
 mod fault;
+mod laws;
 mod machine;
 mod names;
-mod pattern;
 mod scanner;
 mod stack;
-mod symbol;
-mod table;
 mod terminal;
 #[cfg(test)]
 mod tests;
 
 pub use fault::Fault;
+pub use laws::{accepts_files, depth_is_first, syntax_is_first};
 pub use machine::{body_for, step};
 pub use names::{ClassNames, class_names};
-pub use pattern::admits;
 pub use scanner::{MOST_LEVELS, scan};
 pub use stack::Stack;
-pub use symbol::{Known, Nonterminal, Pattern, Symbol, Terminal};
 pub use terminal::terminal_of;

@@ -1,18 +1,19 @@
 ghost use Rattle.std.specs.Prelude.{◌≡◌, ◌++◌, List, Option, None, Some, map, IfOk};
-ghost use Rattle.co_grammar.specs.declared.symbol.Symbol.{Symbol};
+ghost use Rattle.co_rules.specs.declared.symbol.Symbol.{Symbol};
 ghost use Rattle.std.specs.List.{list_any};
 ghost use Rattle.co_grammar.specs.Machine as spec;
-ghost use Rattle.co_grammar.specs.Rule.{rule, in_file, in_class, in_type, in_statement, in_head, in_local, in_value, in_argument, in_unary, in_operand, from_file, from_class, from_type, from_statement, from_head, from_local, from_value, from_argument, from_unary};
+ghost use Rattle.co_rules.specs.Rule.{rule, in_file, in_class, in_type, in_statement, in_head, in_local, in_value, in_argument, in_unary, in_operand, from_file, from_class, from_type, from_statement, from_head, from_local, from_value, from_argument, from_unary};
 
 use crate::fault::Fault;
 use crate::names::class_names;
-use crate::pattern::admits;
 use crate::stack::Stack;
-use crate::symbol::{Nonterminal, Pattern, Symbol, Terminal};
-use crate::table::{ARGUMENT, CLASS, FILE, HEAD, LOCAL, OPERAND, STATEMENT, TYPE, UNARY, VALUE};
 use crate::terminal::terminal_of;
 use co_base::NoMemory;
 use co_lex::Token;
+use co_rules::{
+    ARGUMENT, CLASS, FILE, HEAD, LOCAL, Nonterminal, OPERAND, Pattern, STATEMENT, Symbol, TYPE,
+    Terminal, UNARY, VALUE, admits,
+};
 use std::alloc::Global;
 
 fn needs_class(symbol: Symbol) -> bool
@@ -59,7 +60,6 @@ fn is_between(of: Nonterminal, first: Nonterminal, last: Nonterminal) -> bool
     first as u8 <= of as u8 && of as u8 <= last as u8
 }
 
-#[tactic(auto, unfolding(crate::specs::Rule::in_file))]
 fn in_file(has_classes: bool, of: Nonterminal, terminal: Terminal) -> Option<&'static [Symbol]>
     ensures { spec.Finds result (spec.body_among has_classes of terminal in_file) }
 {
@@ -69,7 +69,6 @@ fn in_file(has_classes: bool, of: Nonterminal, terminal: Terminal) -> Option<&'s
     body_among(has_classes, of, terminal, &FILE)
 }
 
-#[tactic(auto, unfolding(crate::specs::Rule::in_class))]
 fn in_class(has_classes: bool, of: Nonterminal, terminal: Terminal) -> Option<&'static [Symbol]>
     ensures { spec.Finds result (spec.body_among has_classes of terminal in_class) }
 {
@@ -79,7 +78,6 @@ fn in_class(has_classes: bool, of: Nonterminal, terminal: Terminal) -> Option<&'
     body_among(has_classes, of, terminal, &CLASS)
 }
 
-#[tactic(auto, unfolding(crate::specs::Rule::in_type))]
 fn in_type(has_classes: bool, of: Nonterminal, terminal: Terminal) -> Option<&'static [Symbol]>
     ensures { spec.Finds result (spec.body_among has_classes of terminal in_type) }
 {
@@ -89,7 +87,6 @@ fn in_type(has_classes: bool, of: Nonterminal, terminal: Terminal) -> Option<&'s
     body_among(has_classes, of, terminal, &TYPE)
 }
 
-#[tactic(auto, unfolding(crate::specs::Rule::in_statement))]
 fn in_statement(has_classes: bool, of: Nonterminal, terminal: Terminal) -> Option<&'static [Symbol]>
     ensures { spec.Finds result (spec.body_among has_classes of terminal in_statement) }
 {
@@ -99,7 +96,6 @@ fn in_statement(has_classes: bool, of: Nonterminal, terminal: Terminal) -> Optio
     body_among(has_classes, of, terminal, &STATEMENT)
 }
 
-#[tactic(auto, unfolding(crate::specs::Rule::in_head))]
 fn in_head(has_classes: bool, of: Nonterminal, terminal: Terminal) -> Option<&'static [Symbol]>
     ensures { spec.Finds result (spec.body_among has_classes of terminal in_head) }
 {
@@ -109,7 +105,6 @@ fn in_head(has_classes: bool, of: Nonterminal, terminal: Terminal) -> Option<&'s
     body_among(has_classes, of, terminal, &HEAD)
 }
 
-#[tactic(auto, unfolding(crate::specs::Rule::in_local))]
 fn in_local(has_classes: bool, of: Nonterminal, terminal: Terminal) -> Option<&'static [Symbol]>
     ensures { spec.Finds result (spec.body_among has_classes of terminal in_local) }
 {
@@ -119,7 +114,6 @@ fn in_local(has_classes: bool, of: Nonterminal, terminal: Terminal) -> Option<&'
     body_among(has_classes, of, terminal, &LOCAL)
 }
 
-#[tactic(auto, unfolding(crate::specs::Rule::in_value))]
 fn in_value(has_classes: bool, of: Nonterminal, terminal: Terminal) -> Option<&'static [Symbol]>
     ensures { spec.Finds result (spec.body_among has_classes of terminal in_value) }
 {
@@ -129,7 +123,6 @@ fn in_value(has_classes: bool, of: Nonterminal, terminal: Terminal) -> Option<&'
     body_among(has_classes, of, terminal, &VALUE)
 }
 
-#[tactic(auto, unfolding(crate::specs::Rule::in_argument))]
 fn in_argument(has_classes: bool, of: Nonterminal, terminal: Terminal) -> Option<&'static [Symbol]>
     ensures { spec.Finds result (spec.body_among has_classes of terminal in_argument) }
 {
@@ -139,7 +132,6 @@ fn in_argument(has_classes: bool, of: Nonterminal, terminal: Terminal) -> Option
     body_among(has_classes, of, terminal, &ARGUMENT)
 }
 
-#[tactic(auto, unfolding(crate::specs::Rule::in_unary))]
 fn in_unary(has_classes: bool, of: Nonterminal, terminal: Terminal) -> Option<&'static [Symbol]>
     ensures { spec.Finds result (spec.body_among has_classes of terminal in_unary) }
 {
@@ -149,7 +141,6 @@ fn in_unary(has_classes: bool, of: Nonterminal, terminal: Terminal) -> Option<&'
     body_among(has_classes, of, terminal, &UNARY)
 }
 
-#[tactic(auto, unfolding(crate::specs::Rule::in_operand))]
 fn in_operand(has_classes: bool, of: Nonterminal, terminal: Terminal) -> Option<&'static [Symbol]>
     ensures { spec.Finds result (spec.body_among has_classes of terminal in_operand) }
 {
@@ -159,7 +150,6 @@ fn in_operand(has_classes: bool, of: Nonterminal, terminal: Terminal) -> Option<
     body_among(has_classes, of, terminal, &OPERAND)
 }
 
-#[tactic(auto, unfolding(crate::specs::Rule::from_unary))]
 fn from_unary(has_classes: bool, of: Nonterminal, terminal: Terminal) -> Option<&'static [Symbol]>
     ensures { spec.Finds result (spec.body_among has_classes of terminal from_unary) }
 {
@@ -169,7 +159,6 @@ fn from_unary(has_classes: bool, of: Nonterminal, terminal: Terminal) -> Option<
     }
 }
 
-#[tactic(auto, unfolding(crate::specs::Rule::from_argument))]
 fn from_argument(
     has_classes: bool,
     of: Nonterminal,
@@ -183,7 +172,6 @@ fn from_argument(
     }
 }
 
-#[tactic(auto, unfolding(crate::specs::Rule::from_value))]
 fn from_value(has_classes: bool, of: Nonterminal, terminal: Terminal) -> Option<&'static [Symbol]>
     ensures { spec.Finds result (spec.body_among has_classes of terminal from_value) }
 {
@@ -193,7 +181,6 @@ fn from_value(has_classes: bool, of: Nonterminal, terminal: Terminal) -> Option<
     }
 }
 
-#[tactic(auto, unfolding(crate::specs::Rule::from_local))]
 fn from_local(has_classes: bool, of: Nonterminal, terminal: Terminal) -> Option<&'static [Symbol]>
     ensures { spec.Finds result (spec.body_among has_classes of terminal from_local) }
 {
@@ -203,7 +190,6 @@ fn from_local(has_classes: bool, of: Nonterminal, terminal: Terminal) -> Option<
     }
 }
 
-#[tactic(auto, unfolding(crate::specs::Rule::from_head))]
 fn from_head(has_classes: bool, of: Nonterminal, terminal: Terminal) -> Option<&'static [Symbol]>
     ensures { spec.Finds result (spec.body_among has_classes of terminal from_head) }
 {
@@ -213,7 +199,6 @@ fn from_head(has_classes: bool, of: Nonterminal, terminal: Terminal) -> Option<&
     }
 }
 
-#[tactic(auto, unfolding(crate::specs::Rule::from_statement))]
 fn from_statement(
     has_classes: bool,
     of: Nonterminal,
@@ -227,7 +212,6 @@ fn from_statement(
     }
 }
 
-#[tactic(auto, unfolding(crate::specs::Rule::from_type))]
 fn from_type(has_classes: bool, of: Nonterminal, terminal: Terminal) -> Option<&'static [Symbol]>
     ensures { spec.Finds result (spec.body_among has_classes of terminal from_type) }
 {
@@ -237,7 +221,6 @@ fn from_type(has_classes: bool, of: Nonterminal, terminal: Terminal) -> Option<&
     }
 }
 
-#[tactic(auto, unfolding(crate::specs::Rule::from_class))]
 fn from_class(has_classes: bool, of: Nonterminal, terminal: Terminal) -> Option<&'static [Symbol]>
     ensures { spec.Finds result (spec.body_among has_classes of terminal from_class) }
 {
@@ -247,7 +230,6 @@ fn from_class(has_classes: bool, of: Nonterminal, terminal: Terminal) -> Option<
     }
 }
 
-#[tactic(auto, unfolding(crate::specs::Rule::from_file))]
 fn from_file(has_classes: bool, of: Nonterminal, terminal: Terminal) -> Option<&'static [Symbol]>
     ensures { spec.Finds result (spec.body_among has_classes of terminal from_file) }
 {

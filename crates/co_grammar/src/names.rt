@@ -1,10 +1,9 @@
 ghost use Rattle.std.specs.Prelude.{◌≡◌, map, IfOk, OnOk, OnErr};
 ghost use Rattle.co_grammar.specs.Names as spec;
 
-use crate::pattern::is_plain;
-use crate::symbol::Known;
 use co_base::NoMemory;
 use co_lex::{Token, TokenKind, Word};
+use co_rules::{Known, is_plain};
 use std::alloc::Global;
 use std::collections::BTreeSet;
 

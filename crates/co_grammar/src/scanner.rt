@@ -1,16 +1,16 @@
 ghost use Rattle.std.specs.Prelude.{◌≡◌, IfOk, IfErr};
 ghost use Rattle.co_grammar.specs.Machine.{step};
-ghost use Rattle.co_grammar.specs.Rule.{start};
+ghost use Rattle.co_rules.specs.Rule.{start};
 ghost use Rattle.co_grammar.specs.Scan as spec;
 
 use crate::fault::Fault;
 use crate::machine::step;
 use crate::names::class_names;
 use crate::stack::Stack;
-use crate::symbol::{Nonterminal, Pattern, Symbol, Terminal};
 use crate::terminal::terminal_of;
 use co_base::NoMemory;
 use co_lex::Token;
+use co_rules::{Nonterminal, Pattern, Symbol, Terminal};
 use std::alloc::Global;
 
 /// How many nesting levels may be open [implimits].

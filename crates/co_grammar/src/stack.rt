@@ -1,8 +1,8 @@
 ghost use Rattle.std.specs.Prelude.{◌≡◌, ◌∷◌, ◌++◌, [], OnOk, OnErr, IfOk, MatchOption};
 ghost use Rattle.co_grammar.specs.Machine as spec;
 
-use crate::symbol::Symbol;
 use co_base::NoMemory;
+use co_rules::Symbol;
 use std::alloc::Global;
 use std::marker::Model;
 
@@ -15,7 +15,7 @@ pub struct Stack {
 
 impl Model for Stack {
     ghost use Rattle.std.specs.Prelude.{◌≡◌, List, reverse};
-    ghost use Rattle.co_grammar.specs.declared.symbol.Symbol.{Symbol};
+    ghost use Rattle.co_rules.specs.declared.symbol.Symbol.{Symbol};
     ghost use Rattle.co_grammar.specs.Machine.{levels};
 
     ghost Value = { List Symbol };

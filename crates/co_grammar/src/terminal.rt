@@ -3,8 +3,8 @@ ghost use Rattle.co_grammar.specs.Names.{Knows};
 ghost use Rattle.co_grammar.specs.Terminal as spec;
 
 use crate::names::{ClassNames, known};
-use crate::symbol::Terminal;
 use co_lex::TokenKind;
+use co_rules::Terminal;
 
 /// What the grammar sees of a token, where these are the names of classes.
 pub fn terminal_of(classes: &ClassNames, kind: &TokenKind) -> Terminal

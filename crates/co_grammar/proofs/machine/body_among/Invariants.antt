@@ -1,6 +1,6 @@
 use Rattle.std.proofs.Common.{◌≡◌, length, map}
 use Rattle.co_grammar.specs.Machine.{body_among}
-use Rattle.co_grammar.specs.Rule.{rule}
+use Rattle.co_rules.specs.Rule.{rule}
 use Rattle.co_grammar.proofs.machine.body_among.Given as goal
 
 abbrev pub invariant-loop-rules : goal.invariant-loop-rules

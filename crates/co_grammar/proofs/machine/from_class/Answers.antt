@@ -1,4 +1,4 @@
-use Rattle.co_grammar.specs.Rule.{in_class, from_class, from_type}
+use Rattle.co_rules.specs.Rule.{in_class, from_class, from_type}
 use Rattle.co_grammar.proofs.Appends.{among_first, finds_later}
 use Rattle.co_grammar.proofs.machine.from_class.Goals as goal
 

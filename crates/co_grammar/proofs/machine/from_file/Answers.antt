@@ -1,4 +1,4 @@
-use Rattle.co_grammar.specs.Rule.{in_file, from_file, from_class}
+use Rattle.co_rules.specs.Rule.{in_file, from_file, from_class}
 use Rattle.co_grammar.proofs.Appends.{among_first, finds_later}
 use Rattle.co_grammar.proofs.machine.from_file.Goals as goal
 

@@ -1,4 +1,4 @@
-use Rattle.co_grammar.specs.Rule.{in_head, from_head, from_local}
+use Rattle.co_rules.specs.Rule.{in_head, from_head, from_local}
 use Rattle.co_grammar.proofs.Appends.{among_first, finds_later}
 use Rattle.co_grammar.proofs.machine.from_head.Goals as goal
 

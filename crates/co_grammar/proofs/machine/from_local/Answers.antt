@@ -1,4 +1,4 @@
-use Rattle.co_grammar.specs.Rule.{in_local, from_local, from_value}
+use Rattle.co_rules.specs.Rule.{in_local, from_local, from_value}
 use Rattle.co_grammar.proofs.Appends.{among_first, finds_later}
 use Rattle.co_grammar.proofs.machine.from_local.Goals as goal
 

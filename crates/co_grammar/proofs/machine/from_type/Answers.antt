@@ -1,4 +1,4 @@
-use Rattle.co_grammar.specs.Rule.{in_type, from_type, from_statement}
+use Rattle.co_rules.specs.Rule.{in_type, from_type, from_statement}
 use Rattle.co_grammar.proofs.Appends.{among_first, finds_later}
 use Rattle.co_grammar.proofs.machine.from_type.Goals as goal
 

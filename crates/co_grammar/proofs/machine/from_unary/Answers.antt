@@ -1,4 +1,4 @@
-use Rattle.co_grammar.specs.Rule.{in_unary, from_unary, in_operand}
+use Rattle.co_rules.specs.Rule.{in_unary, from_unary, in_operand}
 use Rattle.co_grammar.proofs.Appends.{among_first, finds_later}
 use Rattle.co_grammar.proofs.machine.from_unary.Goals as goal
 

@@ -7,15 +7,15 @@ use Rattle.co_lex.specs.declared.token.Word.{Word}
 use Rattle.co_lex.specs.declared.token.Word.TheVariants as word
 use Rattle.co_lex.specs.contracts.token.Mark as marks_of
 use Rattle.co_lex.specs.contracts.token.Word as words_of
-use Rattle.co_grammar.specs.contracts.symbol.Known as known_of
-use Rattle.co_grammar.specs.contracts.symbol.Nonterminal as nonterminal_of
-use Rattle.co_grammar.specs.declared.pattern.TheConstants.{LITERALS, BUILTINS, ACCESSES, CLASS_KEYS, SPECIFIERS, ALLOCATIONS, OPERATOR_NAMES, UNARY, BINARY, ASSIGNMENTS, INCREMENTS, MEMBER_ACCESSES, REFERENCES, NEW_MARKS, LIBRARY_OBJECTS, LIBRARY_FUNCTIONS, HANDLE_FUNCTIONS, RUN_FUNCTIONS, NAMES}
-use Rattle.co_grammar.specs.declared.symbol.Known.{Known}
-use Rattle.co_grammar.specs.declared.symbol.Nonterminal.{Nonterminal}
-use Rattle.co_grammar.specs.declared.symbol.Pattern.{Pattern}
-use Rattle.co_grammar.specs.declared.symbol.Pattern.TheVariants as pattern
-use Rattle.co_grammar.specs.declared.symbol.Terminal.{Terminal}
-use Rattle.co_grammar.specs.declared.symbol.Terminal.TheVariants as terminal
+use Rattle.co_rules.specs.contracts.symbol.Known as known_of
+use Rattle.co_rules.specs.contracts.symbol.Nonterminal as nonterminal_of
+use Rattle.co_rules.specs.declared.pattern.TheConstants.{LITERALS, BUILTINS, ACCESSES, CLASS_KEYS, SPECIFIERS, ALLOCATIONS, OPERATOR_NAMES, UNARY, BINARY, ASSIGNMENTS, INCREMENTS, MEMBER_ACCESSES, REFERENCES, NEW_MARKS, LIBRARY_OBJECTS, LIBRARY_FUNCTIONS, HANDLE_FUNCTIONS, RUN_FUNCTIONS, NAMES}
+use Rattle.co_rules.specs.declared.symbol.Known.{Known}
+use Rattle.co_rules.specs.declared.symbol.Nonterminal.{Nonterminal}
+use Rattle.co_rules.specs.declared.symbol.Pattern.{Pattern}
+use Rattle.co_rules.specs.declared.symbol.Pattern.TheVariants as pattern
+use Rattle.co_rules.specs.declared.symbol.Terminal.{Terminal}
+use Rattle.co_rules.specs.declared.symbol.Terminal.TheVariants as terminal
 
 -- the places of words, marks, names and nonterminals in the lists of their variants
 abbrev pub word_number : Word → ℕ

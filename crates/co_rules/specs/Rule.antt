@@ -1,12 +1,12 @@
 -- The rules of the grammar.
 use Rattle.std.specs.Prelude.{◌≡◌, ◌⊎◌, List, [], ◌∷◌, ◌++◌, map}
-use Rattle.co_grammar.specs.declared.symbol.Nonterminal.{Nonterminal}
-use Rattle.co_grammar.specs.declared.symbol.Nonterminal.TheVariants as nonterminal
-use Rattle.co_grammar.specs.declared.symbol.Pattern.{Pattern}
-use Rattle.co_grammar.specs.declared.symbol.Pattern.TheVariants as pattern
-use Rattle.co_grammar.specs.declared.symbol.Symbol.{Symbol}
-use Rattle.co_grammar.specs.declared.symbol.Symbol.TheVariants.{Token, Many}
-use Rattle.co_grammar.specs.declared.table.TheConstants.{FILE, CLASS, TYPE, STATEMENT, HEAD, LOCAL, VALUE, ARGUMENT, UNARY, OPERAND}
+use Rattle.co_rules.specs.declared.symbol.Nonterminal.{Nonterminal}
+use Rattle.co_rules.specs.declared.symbol.Nonterminal.TheVariants as nonterminal
+use Rattle.co_rules.specs.declared.symbol.Pattern.{Pattern}
+use Rattle.co_rules.specs.declared.symbol.Pattern.TheVariants as pattern
+use Rattle.co_rules.specs.declared.symbol.Symbol.{Symbol}
+use Rattle.co_rules.specs.declared.symbol.Symbol.TheVariants.{Token, Many}
+use Rattle.co_rules.specs.declared.table.TheConstants.{FILE, CLASS, TYPE, STATEMENT, HEAD, LOCAL, VALUE, ARGUMENT, UNARY, OPERAND}
 
 -- The nonterminal derives a token of the pattern and then what the body does.
 pub record Rule : Type 0 where

@@ -1,5 +1,5 @@
 ghost use Rattle.std.specs.Prelude.{◌≡◌};
-ghost use Rattle.co_grammar.specs.Pattern as spec;
+ghost use Rattle.co_rules.specs.Pattern as spec;
 
 use crate::symbol::{Known, Pattern, Terminal};
 use co_lex::{Mark, Word};

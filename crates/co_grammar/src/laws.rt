@@ -1,0 +1,16 @@
+ghost use Rattle.co_grammar.specs.Laws.{AcceptsFiles, SyntaxIsFirst, DepthIsFirst};
+
+/// A law: a list of tokens is accepted exactly where the rules derive it and none of its tokens opens too many levels.
+pub fn accepts_files()
+    ensures { AcceptsFiles }
+{}
+
+/// A law: a syntax fault stands at the first token such that the tokens up to and with it are the beginning of no file.
+pub fn syntax_is_first()
+    ensures { SyntaxIsFirst }
+{}
+
+/// A law: the fault of nesting stands at the first token that opens too many levels, where no syntax fault stands there or before.
+pub fn depth_is_first()
+    ensures { DepthIsFirst }
+{}
