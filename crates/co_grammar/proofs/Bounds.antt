@@ -1,6 +1,5 @@
 -- A table has the rules of the nonterminals between two of them alone.
 use Rattle.std.proofs.Common.{◌≡◌, Bool, true, false, ◌&&◌, cond, nat_eq, nat_le, List, [], ◌∷◌, Option, Some, None, refl, sym, ap, ◌∙◌}
-use Rattle.std.specs.List.{list_all}
 use Rattle.co_rules.specs.declared.symbol.Nonterminal.{Nonterminal}
 use Rattle.co_rules.specs.declared.symbol.Nonterminal.TheVariants as nonterminal
 use Rattle.co_rules.specs.declared.symbol.Symbol.{Symbol}
@@ -8,7 +7,7 @@ use Rattle.co_rules.specs.declared.symbol.Terminal.{Terminal}
 use Rattle.co_grammar.specs.Machine.{applies, is_usable, body_among, is_between}
 use Rattle.co_rules.specs.Pattern.{admits, nonterminal_number}
 use Rattle.co_rules.specs.Rule.{Rule, in_file, in_class, in_type, in_statement, in_head, in_local, in_value, in_argument, in_unary, in_operand}
-use Rattle.co_grammar.proofs.Sets.{never, eq_true, and_split}
+use Rattle.co_rules.proofs.Sets.{never, eq_true, and_split}
 
 abbrev pub all_between : Nonterminal → Nonterminal → List Rule → Bool
 all_between first last [] = true

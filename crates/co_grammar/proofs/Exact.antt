@@ -1,18 +1,15 @@
 -- What the first fault of a list of tokens means.
-use Rattle.std.proofs.Common.{◌≡◌, ℕ, zero, suc, ◌+◌, ◌<◌, ◌≤◌, Bool, true, false, List, [], ◌∷◌, ◌++◌, map, length, take, get_or, Ok, Err, refl, sym, ap, ◌∙◌, subst, arith}
-use Rattle.co_base.specs.declared.span.Span.{Span}
+use Rattle.std.proofs.Common.{◌≡◌, ℕ, zero, suc, ◌+◌, ◌<◌, ◌≤◌, Bool, false, List, [], ◌∷◌, ◌++◌, map, length, take, get_or, refl, sym, ap, ◌∙◌, subst, arith}
 use Rattle.co_lex.specs.declared.token.Token.{Token}
-use Rattle.co_grammar.specs.declared.fault.Fault.TheVariants.{Syntax, TooDeep}
 use Rattle.co_rules.specs.declared.symbol.Pattern.{Pattern}
 use Rattle.co_rules.specs.declared.symbol.Terminal.{Terminal}
-use Rattle.co_grammar.specs.Derives.{Derives}
+use Rattle.co_rules.specs.Derives.{Derives}
 use Rattle.co_grammar.specs.Laws.{IsFile, IsBegun, IsShallow, depths, AcceptsFiles, SyntaxIsFirst, DepthIsFirst}
 use Rattle.co_grammar.specs.Names.{classes, has_some}
-use Rattle.co_rules.specs.Pattern.{admits}
 use Rattle.co_rules.specs.Rule.{start}
-use Rattle.co_grammar.specs.Scan.{scanned, scanned_from}
+use Rattle.co_grammar.specs.Scan.{scanned}
 use Rattle.co_grammar.specs.Terminal.{terminal_of, terminals}
-use Rattle.co_grammar.proofs.Examples.{ArePlain, example, example-admits, plain-classes, suits-terminals}
+use Rattle.co_grammar.proofs.Examples.{example, example-admits, plain-classes, suits-terminals}
 use Rattle.co_grammar.proofs.Fits.{start-fits}
 use Rattle.co_grammar.proofs.Scans.{Good, Stopped, stopped, Sunk, sunk, accepted, accepted-shallow, accepts}
 use Rattle.co_grammar.proofs.Tests.{start-lives}

@@ -1,9 +1,7 @@
 -- A token for each pattern.
-use Rattle.std.proofs.Common.{◌≡◌, ℕ, zero, suc, ◌+◌, ◌<◌, ◌≤◌, Bool, true, false, not, ◌&&◌, ◌||◌, cond, nat_eq, max, List, [], ◌∷◌, ◌++◌, map, length, take, codes, refl, sym, ap, ◌∙◌, subst, ◌⊎◌, inl, inr, arith}
-use Rattle.std.specs.List.{list_any, list_all}
+use Rattle.std.proofs.Common.{◌≡◌, ℕ, zero, suc, ◌+◌, ◌<◌, Bool, true, false, not, ◌&&◌, ◌||◌, cond, nat_eq, List, [], ◌∷◌, ◌++◌, length, codes, refl, sym, ap, ◌∙◌, arith}
 use Rattle.std.specs.Str.{bytes_eq}
 use Rattle.std.proofs.lemmas.Slice.Eq.{bytes_eq-Decides}
-use Rattle.co_base.specs.declared.span.Span.{Span}
 use Rattle.co_lex.specs.declared.token.Mark.TheVariants as mark
 use Rattle.co_lex.specs.declared.token.Token.{Token}
 use Rattle.co_lex.specs.declared.token.TokenKind.{TokenKind}
@@ -13,14 +11,13 @@ use Rattle.co_rules.specs.declared.symbol.Known.{Known}
 use Rattle.co_rules.specs.declared.symbol.Known.TheVariants as known_name
 use Rattle.co_rules.specs.declared.symbol.Pattern.{Pattern}
 use Rattle.co_rules.specs.declared.symbol.Pattern.TheVariants as pattern
-use Rattle.co_rules.specs.declared.symbol.Terminal.{Terminal}
 use Rattle.co_rules.specs.declared.symbol.Terminal.TheVariants as terminal
-use Rattle.co_grammar.specs.Names.{known, is_class, has_some, named, introduces, classes_from, classes}
+use Rattle.co_grammar.specs.Names.{known, is_class, has_some, named, introduces, classes_from}
 use Rattle.co_rules.specs.Pattern.{admits, is_plain, word_number, mark_number, known_number}
 use Rattle.co_grammar.specs.Terminal.{terminal_of, terminals}
 use Rattle.co_grammar.proofs.Live.{Suits, is_class_name}
 use Rattle.co_grammar.proofs.Lives.{fits_classes}
-use Rattle.co_grammar.proofs.Sets.{never, true_eq, and_split, or_left}
+use Rattle.co_rules.proofs.Sets.{never, true_eq, or_left}
 
 -- ---- a name that is of no class: longer than each of them
 

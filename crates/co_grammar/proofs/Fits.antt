@@ -1,17 +1,15 @@
 -- What a stack may begin with, and the stacks on which nothing is left out before what it begins with.
-use Rattle.std.proofs.Common.{◌≡◌, ℕ, Bool, true, false, ◌&&◌, List, [], ◌∷◌, ◌++◌, refl, sym, ap, ◌∙◌, subst, ◌⊎◌, inl, inr}
-use Rattle.co_rules.specs.declared.symbol.Nonterminal.{Nonterminal}
-use Rattle.co_rules.specs.declared.symbol.Nonterminal.TheVariants as nonterminal
+use Rattle.std.proofs.Common.{◌≡◌, ℕ, true, ◌&&◌, List, [], ◌∷◌, ◌++◌, refl, ap, subst, inl, inr}
 use Rattle.co_rules.specs.declared.symbol.Symbol.{Symbol}
 use Rattle.co_rules.specs.declared.symbol.Symbol.TheVariants.{Token, One, Maybe, Many, Greedy, Close}
 use Rattle.co_rules.specs.declared.symbol.Terminal.{Terminal}
-use Rattle.co_grammar.specs.Derives as d
-use Rattle.co_grammar.specs.Derives.{Derives}
+use Rattle.co_rules.specs.Derives as d
+use Rattle.co_rules.specs.Derives.{Derives}
 use Rattle.co_rules.specs.Rule.{rules, start, in_file, in_class, in_type, in_statement, in_head, in_local, in_value, in_argument, in_unary, in_operand, from_file, from_class, from_type, from_statement, from_head, from_local, from_value, from_argument, from_unary}
-use Rattle.co_grammar.proofs.Follow.{number, heads, follow, firsts, fits, Set, among, add, within, apart, covered}
-use Rattle.co_grammar.proofs.Numbers.{admits-number}
+use Rattle.co_rules.proofs.Follow.{number, heads, follow, firsts, fits, Set, among, add, within, apart, covered}
+use Rattle.co_rules.proofs.Numbers.{admits-number}
 use Rattle.co_grammar.proofs.Picks.{begins-heads}
-use Rattle.co_grammar.proofs.Sets.{and_split, In, Meets, Within, Apart, within-Within, apart-Apart, add_left, add_right, add_split}
+use Rattle.co_rules.proofs.Sets.{and_split, Meets, Within, Apart, within-Within, apart-Apart, add_left, add_right, add_split}
 
 -- no terminal comes after
 abbrev pub nothing : Set
@@ -100,5 +98,5 @@ derives-first stack t ts after (d.taken n p rest body u us b e) = add_left (numb
 derives-first stack t ts after (d.left_out n p rest us q e) = add_right (number t) (heads n) (firsts rest after) (derives-first rest t ts after e)
 
 pub start-fits : Fits nothing start
-unfolding fits heads follow in_file in_class in_type in_statement in_head in_local in_value in_argument in_unary in_operand from_file from_class from_type from_statement from_head from_local from_value from_argument from_unary Rattle.co_grammar.proofs.Follow.numbers
+unfolding fits heads follow in_file in_class in_type in_statement in_head in_local in_value in_argument in_unary in_operand from_file from_class from_type from_statement from_head from_local from_value from_argument from_unary Rattle.co_rules.proofs.Follow.numbers
 start-fits = fits-Fits nothing start refl

@@ -4,14 +4,10 @@ mod Classes
 mod Exact
 mod Examples
 mod Fits
-mod Follow
 mod Levels
 mod Live
 mod Lives
-mod Numbers
 mod Picks
-mod Places
 mod Scans
-mod Sets
 mod Steps
 mod Tests

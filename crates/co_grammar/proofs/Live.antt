@@ -1,5 +1,5 @@
 -- Each stack that is reached derives some list; and where no name is of a class, nothing derives a path to one.
-use Rattle.std.proofs.Common.{◌≡◌, ℕ, zero, suc, Bool, true, false, not, ◌&&◌, ◌||◌, cond, nat_eq, List, [], ◌∷◌, ◌++◌, map, get_or, Some, None, refl, sym, ap, ◌∙◌, subst, ◌⊎◌, inl, inr}
+use Rattle.std.proofs.Common.{◌≡◌, ℕ, zero, suc, Bool, true, false, not, ◌&&◌, ◌||◌, cond, nat_eq, List, [], ◌∷◌, ◌++◌, map, get_or, Some, None, refl, sym, ap, ◌∙◌, subst, inl, inr}
 use Rattle.std.specs.List.{list_any, list_all}
 use Rattle.co_rules.specs.declared.symbol.Nonterminal.{Nonterminal}
 use Rattle.co_rules.specs.declared.symbol.Nonterminal.TheVariants as nonterminal
@@ -9,16 +9,16 @@ use Rattle.co_rules.specs.declared.symbol.Symbol.{Symbol}
 use Rattle.co_rules.specs.declared.symbol.Symbol.TheVariants.{Token, One, Maybe, Many, Greedy, Close}
 use Rattle.co_rules.specs.declared.symbol.Terminal.{Terminal}
 use Rattle.co_rules.specs.declared.symbol.Terminal.TheVariants as terminal
-use Rattle.co_grammar.specs.Derives as d
-use Rattle.co_grammar.specs.Derives.{Derives, Begins}
-use Rattle.co_grammar.specs.Machine.{needs_class, is_usable, body_for, put, step}
+use Rattle.co_rules.specs.Derives as d
+use Rattle.co_rules.specs.Derives.{Derives, Begins}
+use Rattle.co_grammar.specs.Machine.{needs_class, is_usable, body_for, step}
 use Rattle.co_rules.specs.Pattern.{admits, nonterminal_number}
-use Rattle.co_rules.specs.Rule.{Rule, rules, start, Stands}
-use Rattle.co_grammar.proofs.Places.{number-same, every, at_place}
-use Rattle.co_grammar.proofs.Sets.{never, true_eq, and_split, or_split}
+use Rattle.co_rules.specs.Rule.{Rule, rules, Stands}
+use Rattle.co_rules.proofs.Places.{number-same, every, at_place}
+use Rattle.co_rules.proofs.Sets.{never, and_split, or_split}
 use Rattle.co_grammar.proofs.Tests.{every-lives, item-lives, rules-live, rules-barren}
 use Rattle.co_grammar.proofs.Picks.{none_some, and_true}
-use Rattle.co_grammar.proofs.Steps.{Put, body_on, the_other, put_some, test_some, not_then, Plain, without}
+use Rattle.co_grammar.proofs.Steps.{body_on, the_other, put_some, test_some, not_then, Plain, without}
 use Rattle.co_grammar.proofs.Lives.{is_class_pattern, fits_classes, grows, lives, live, living, all_live, all_barren}
 use Rattle.std.proofs.lemmas.List.{append-nil}
 

@@ -1,24 +1,22 @@
 -- The rule that applies is the one that begins with the terminal.
-use Rattle.std.proofs.Common.{◌≡◌, ℕ, Bool, true, false, not, ◌&&◌, ◌||◌, cond, nat_eq, List, [], ◌∷◌, ◌++◌, Option, Some, None, refl, sym, ap, ◌∙◌, subst, ◌⊎◌, inl, inr}
+use Rattle.std.proofs.Common.{◌≡◌, ℕ, Bool, true, false, not, ◌&&◌, ◌||◌, cond, nat_eq, List, [], ◌∷◌, ◌++◌, Some, None, refl, sym, ap, ◌∙◌, subst, inl, inr}
 use Rattle.std.specs.List.{list_any}
-use Rattle.co_lex.specs.declared.token.Mark.{Mark}
-use Rattle.co_lex.specs.declared.token.Word.{Word}
 use Rattle.co_rules.specs.declared.symbol.Nonterminal.{Nonterminal}
-use Rattle.co_rules.specs.declared.symbol.Nonterminal.TheVariants as nonterminal
 use Rattle.co_rules.specs.declared.symbol.Pattern.{Pattern}
 use Rattle.co_rules.specs.declared.symbol.Pattern.TheVariants as pattern
 use Rattle.co_rules.specs.declared.symbol.Symbol.{Symbol}
 use Rattle.co_rules.specs.declared.symbol.Terminal.{Terminal}
 use Rattle.co_rules.specs.declared.symbol.Terminal.TheVariants as terminal
-use Rattle.co_grammar.specs.Derives.{Begins}
+use Rattle.co_rules.specs.Derives.{Begins}
 use Rattle.co_grammar.specs.Machine.{needs_class, applies, body_among, body_for}
-use Rattle.co_rules.specs.Pattern.{admits, words, marks, names, suits, word_number, mark_number, known_number, nonterminal_number}
+use Rattle.co_rules.specs.Pattern.{admits, words, marks, word_number, mark_number, nonterminal_number}
 use Rattle.co_rules.specs.Rule.{Rule, rules, Stands}
-use Rattle.co_grammar.proofs.Follow.{number, numbers, heads, heads_among, follow, fits, fit, alone, distinct, covers, covered, none_in}
-use Rattle.co_grammar.proofs.Numbers.{admits-number}
-use Rattle.co_grammar.proofs.Places.{number-same}
-use Rattle.co_grammar.proofs.Sets.{never, eq_true, true_eq, and_split, or_split, or_left, or_right, In, in_left, in_right, none_in-in}
-use Rattle.co_grammar.proofs.Tests.{rules-distinct, rules-fit}
+use Rattle.co_rules.proofs.Follow.{number, numbers, heads, heads_among, follow, fits, fit, alone, distinct, covers, covered}
+use Rattle.co_rules.proofs.Numbers.{admits-number}
+use Rattle.co_rules.proofs.Places.{number-same}
+use Rattle.co_rules.proofs.Sets.{never, eq_true, true_eq, and_split, In, in_left, in_right}
+use Rattle.co_rules.proofs.Tested.{rules-distinct, rules-fit}
+use Rattle.co_rules.proofs.Unique.{clash, alone-not}
 
 pub none_some : {A B : Type 0} {a : A} → None ≡ Some a → B
 none_some h = absurd cc
@@ -29,21 +27,6 @@ some_same h = cc
 pub and_true : (a b : Bool) → a ≡ true → b ≡ true → (a && b) ≡ true
 and_true true b h e = e
 and_true false b h e = never h
-
-clash : (a b : Bool) → (not a || b) ≡ true → a ≡ true → b ≡ true
-clash true b h e = h
-clash false b h e = never e
-
--- ---- one rule at most begins with a terminal
-
-alone-not : (r : Rule) (rs : List Rule) (q : Rule) (t : Terminal) → alone r rs ≡ true → Stands q rs → q.of ≡ r.of → admits r.head t ≡ true → admits q.head t ≡ true → ⊥
-alone-not r [] q t h s e a b = absurd s
-alone-not r (x ∷ rs) q t h s e a b =
-    let p = and_split (not (nat_eq (nonterminal_number x.of) (nonterminal_number r.of)) || none_in (numbers r.head) (numbers x.head)) (alone r rs) h in
-    elim s [
-      | inl i ↦ none_in-in (number t) (numbers r.head) (numbers x.head) (clash (nat_eq (nonterminal_number x.of) (nonterminal_number r.of)) (none_in (numbers r.head) (numbers x.head)) p.0 (true_eq (nonterminal_number x.of) (nonterminal_number r.of) (ap (λ y. nonterminal_number y.of) i ∙ ap nonterminal_number e))) (admits-number r.head t a) (admits-number x.head t (ap (λ y. admits y.head t) i ∙ b))
-      | inr k ↦ alone-not r rs q t p.1 k e a b
-    ]
 
 applies-made : (c : Bool) (n : Nonterminal) (t : Terminal) (r : Rule) → r.of ≡ n → admits r.head t ≡ true → (c || not (list_any needs_class r.body)) ≡ true → applies c n t r ≡ true
 applies-made c n t r e a u =

@@ -1,5 +1,5 @@
 -- What a scan of terminals tells.
-use Rattle.std.proofs.Common.{◌≡◌, ℕ, zero, suc, ◌+◌, ◌<◌, ◌≤◌, Bool, true, false, not, ◌||◌, cond, nat_lt, List, [], ◌∷◌, ◌++◌, map, length, take, get_or, Option, Some, None, Result, Ok, Err, refl, sym, ap, ◌∙◌, subst, ◌⊎◌, inl, inr, arith}
+use Rattle.std.proofs.Common.{◌≡◌, ℕ, zero, suc, ◌+◌, ◌<◌, ◌≤◌, Bool, true, false, cond, nat_lt, List, [], ◌∷◌, ◌++◌, map, length, take, get_or, Option, Some, None, Result, Ok, Err, refl, sym, ap, ◌∙◌, subst, arith}
 use Rattle.std.proofs.lemmas.Bool.Decides.{nat_tests}
 use Rattle.co_grammar.specs.declared.fault.Fault.{Fault}
 use Rattle.co_grammar.specs.declared.fault.Fault.TheVariants.{Syntax, TooDeep}
@@ -7,19 +7,18 @@ use Rattle.co_rules.specs.declared.symbol.Pattern.{Pattern}
 use Rattle.co_rules.specs.declared.symbol.Symbol.{Symbol}
 use Rattle.co_rules.specs.declared.symbol.Symbol.TheVariants.{Token, One, Maybe, Many, Greedy, Close}
 use Rattle.co_rules.specs.declared.symbol.Terminal.{Terminal}
-use Rattle.co_grammar.specs.Derives as d
-use Rattle.co_grammar.specs.Derives.{Derives}
+use Rattle.co_rules.specs.Derives as d
+use Rattle.co_rules.specs.Derives.{Derives}
 use Rattle.co_grammar.specs.Laws.{depths_from, depths_on, IsShallow}
 use Rattle.co_grammar.specs.Machine.{step, levels, body_for}
 use Rattle.co_rules.specs.Pattern.{admits}
-use Rattle.co_rules.specs.Rule.{start}
 use Rattle.co_grammar.specs.Scan.{go_on, ended, scanned_from}
 use Rattle.co_grammar.proofs.Fits.{nothing, Fits}
-use Rattle.co_grammar.proofs.Live.{Filled, completed, lives-on, Suits, suits-plain}
+use Rattle.co_grammar.proofs.Live.{completed, lives-on, Suits, suits-plain}
 use Rattle.co_grammar.proofs.Lives.{fits_classes, grows, live}
 use Rattle.co_grammar.proofs.Picks.{none_some, some_same}
-use Rattle.co_grammar.proofs.Sets.{never}
-use Rattle.co_grammar.proofs.Steps.{sound, preserved, complete, Goes, Put, body_on, the_other, put_some, test_some, not_then}
+use Rattle.co_rules.proofs.Sets.{never}
+use Rattle.co_grammar.proofs.Steps.{sound, preserved, complete, body_on, the_other, put_some, test_some, not_then}
 
 abbrev pub Answer : Type 0
 Answer = Result (Unit {0}) Fault

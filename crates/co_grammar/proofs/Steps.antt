@@ -1,21 +1,18 @@
 -- The machine steps exactly where a list that is derivable goes on.
-use Rattle.std.proofs.Common.{◌≡◌, ℕ, Bool, true, false, not, ◌&&◌, ◌||◌, cond, List, [], ◌∷◌, ◌++◌, Option, Some, None, refl, sym, ap, ◌∙◌, subst, ◌⊎◌, inl, inr}
+use Rattle.std.proofs.Common.{◌≡◌, Bool, true, false, not, ◌||◌, cond, List, [], ◌∷◌, ◌++◌, Option, Some, None, refl, sym, ap, ◌∙◌, subst, inl, inr}
 use Rattle.std.specs.List.{list_any}
 use Rattle.co_rules.specs.declared.symbol.Nonterminal.{Nonterminal}
-use Rattle.co_rules.specs.declared.symbol.Nonterminal.TheVariants as nonterminal
-use Rattle.co_rules.specs.declared.symbol.Pattern.{Pattern}
 use Rattle.co_rules.specs.declared.symbol.Symbol.{Symbol}
 use Rattle.co_rules.specs.declared.symbol.Symbol.TheVariants.{Token, One, Maybe, Many, Greedy, Close}
 use Rattle.co_rules.specs.declared.symbol.Terminal.{Terminal}
-use Rattle.co_grammar.specs.Derives as d
-use Rattle.co_grammar.specs.Derives.{Derives, Begins}
+use Rattle.co_rules.specs.Derives as d
+use Rattle.co_rules.specs.Derives.{Derives, Begins}
 use Rattle.co_grammar.specs.Machine.{needs_class, is_usable, body_for, put, step}
 use Rattle.co_rules.specs.Pattern.{admits}
-use Rattle.co_rules.specs.Rule.{rules, start}
-use Rattle.co_grammar.proofs.Follow.{number, heads, follow, firsts, add}
+use Rattle.co_rules.proofs.Follow.{number, heads, follow, firsts}
 use Rattle.co_grammar.proofs.Fits.{nothing, Fits, fits-Fits, fits-append, derives-first}
 use Rattle.co_grammar.proofs.Picks.{none_some, some_same, begins-picked, picked-begins, picked-usable, begins-heads, begins-fits, covered-begins}
-use Rattle.co_grammar.proofs.Sets.{never, add_split, Apart}
+use Rattle.co_rules.proofs.Sets.{never, add_split, Apart}
 
 -- ---- what the stack after the terminal derives, the stack before derives with the terminal
 

@@ -1,18 +1,10 @@
+-- The tests that each rule derives some list.
 use Rattle.std.proofs.Common.{◌≡◌, Bool, true, false, not, ◌||◌, refl}
 use Rattle.std.specs.List.{list_all}
 use Rattle.co_rules.specs.declared.symbol.Nonterminal.TheVariants as nonterminal
 use Rattle.co_rules.specs.Rule.{rules, start, in_file, in_class, in_type, in_statement, in_head, in_local, in_value, in_argument, in_unary, in_operand, from_file, from_class, from_type, from_statement, from_head, from_local, from_value, from_argument, from_unary}
 use Rattle.co_grammar.proofs.Lives.{grows, lives, live, all_live, all_barren}
-use Rattle.co_grammar.proofs.Places.{every}
-use Rattle.co_grammar.proofs.Follow.{fit, fits, distinct, numbers, heads, follow}
-
-pub rules-distinct : distinct rules ≡ true
-unfolding in_file in_class in_type in_statement in_head in_local in_value in_argument in_unary in_operand from_file from_class from_type from_statement from_head from_local from_value from_argument from_unary numbers
-rules-distinct = refl
-
-pub rules-fit : fit rules ≡ true
-unfolding in_file in_class in_type in_statement in_head in_local in_value in_argument in_unary in_operand from_file from_class from_type from_statement from_head from_local from_value from_argument from_unary numbers heads follow fits
-rules-fit = refl
+use Rattle.co_rules.proofs.Places.{every}
 
 -- each nonterminal derives a list, but for those that need a class where there is none
 pub every-lives : (has : Bool) → list_all (λ n. not (live has n) || lives 6 has n) every ≡ true

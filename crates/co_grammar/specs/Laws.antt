@@ -5,7 +5,7 @@ use Rattle.co_grammar.specs.declared.fault.Fault.TheVariants.{Syntax, TooDeep}
 use Rattle.co_grammar.specs.declared.scanner.TheConstants.{MOST_LEVELS}
 use Rattle.co_rules.specs.declared.symbol.Symbol.{Symbol}
 use Rattle.co_rules.specs.declared.symbol.Terminal.{Terminal}
-use Rattle.co_grammar.specs.Derives.{Derives}
+use Rattle.co_rules.specs.Derives.{Derives}
 use Rattle.co_grammar.specs.Machine.{step, levels}
 use Rattle.co_grammar.specs.Names.{classes, has_some}
 use Rattle.co_rules.specs.Rule.{start}

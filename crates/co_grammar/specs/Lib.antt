@@ -1,4 +1,3 @@
-pub mod Derives
 pub mod Laws
 pub mod Machine
 pub mod Names

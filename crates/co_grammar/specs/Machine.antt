@@ -1,11 +1,9 @@
 -- The machine that reads a list of terminals with a stack of symbols, the first symbol on top.
-use Rattle.std.specs.Prelude.{◌≡◌, ℕ, ◌+◌, Bool, true, false, not, ◌&&◌, ◌||◌, if◌then◌else◌, nat_eq, nat_le, List, [], ◌∷◌, ◌++◌, Option, Some, None, Result, Ok, Err}
+use Rattle.std.specs.Prelude.{◌≡◌, ℕ, ◌+◌, Bool, true, false, not, ◌&&◌, ◌||◌, if◌then◌else◌, nat_eq, nat_le, List, [], ◌∷◌, ◌++◌, Option, Some, None}
 use Rattle.std.specs.Borrow.{Bor}
 use Rattle.std.specs.List.{list_any}
 use Rattle.co_rules.specs.declared.symbol.Nonterminal.{Nonterminal}
 use Rattle.co_rules.specs.declared.symbol.Nonterminal.TheVariants as nonterminal
-use Rattle.co_rules.specs.declared.symbol.Pattern.{Pattern}
-use Rattle.co_rules.specs.declared.symbol.Pattern.TheVariants as pattern
 use Rattle.co_rules.specs.declared.symbol.Symbol.{Symbol}
 use Rattle.co_rules.specs.declared.symbol.Symbol.TheVariants.{Token, One, Maybe, Many, Greedy, Close}
 use Rattle.co_rules.specs.declared.symbol.Terminal.{Terminal}

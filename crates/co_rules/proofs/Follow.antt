@@ -1,6 +1,5 @@
 -- What may follow each nonterminal, and the test of the table.
-use Rattle.std.specs.Prelude.{◌≡◌, ℕ, ◌+◌, Bool, true, false, not, ◌&&◌, ◌||◌, if◌then◌else◌, nat_eq, List, [], ◌∷◌, ◌++◌, map}
-use Rattle.std.specs.List.{list_any, list_all}
+use Rattle.std.specs.Prelude.{ℕ, ◌+◌, Bool, true, false, not, ◌&&◌, ◌||◌, if◌then◌else◌, nat_eq, List, [], ◌∷◌, ◌++◌, map}
 use Rattle.co_lex.specs.declared.token.Mark.TheVariants as mark
 use Rattle.co_lex.specs.declared.token.Word.TheVariants as word
 use Rattle.co_rules.specs.declared.symbol.Known.{Known}

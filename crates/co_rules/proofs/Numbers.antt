@@ -1,15 +1,13 @@
 -- A terminal's number is one of the numbers of each pattern that it may stand for.
-use Rattle.std.proofs.Common.{◌≡◌, ℕ, ◌+◌, Bool, true, false, not, ◌&&◌, ◌||◌, nat_eq, List, [], ◌∷◌, ◌++◌, map, refl, sym, ap, ◌∙◌, subst, ◌⊎◌, inl, inr, arith}
+use Rattle.std.proofs.Common.{◌≡◌, ℕ, ◌+◌, Bool, true, false, nat_eq, List, [], ◌∷◌, map, refl, ap, inl, inr}
 use Rattle.std.specs.List.{list_any}
-use Rattle.co_lex.specs.declared.token.Mark.{Mark}
 use Rattle.co_rules.specs.declared.symbol.Known.{Known}
 use Rattle.co_rules.specs.declared.symbol.Pattern.{Pattern}
-use Rattle.co_rules.specs.declared.symbol.Pattern.TheVariants as pattern
 use Rattle.co_rules.specs.declared.symbol.Terminal.{Terminal}
 use Rattle.co_rules.specs.declared.symbol.Terminal.TheVariants as terminal
 use Rattle.co_rules.specs.Pattern.{words, marks, names, suits, is_literal, is_text, is_end, admits, word_number, mark_number, known_number}
-use Rattle.co_grammar.proofs.Follow.{number, numbers, single, under}
-use Rattle.co_grammar.proofs.Sets.{never, eq_true, and_split, or_split, In, in_left, in_right}
+use Rattle.co_rules.proofs.Follow.{number, numbers, single, under}
+use Rattle.co_rules.proofs.Sets.{never, eq_true, and_split, or_split, In, in_left, in_right}
 
 -- an element that is found by its number has that number among them
 found : {A : Type 0} (f : A → ℕ) (g : ℕ → ℕ) (n : ℕ) (xs : List A) → list_any (λ v. nat_eq (f v) n) xs ≡ true → In (g n) (map (λ v. g (f v)) xs)

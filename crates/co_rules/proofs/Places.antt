@@ -1,9 +1,9 @@
 -- A nonterminal is told by its place in the list of all.
-use Rattle.std.proofs.Common.{◌≡◌, ℕ, true, nat_eq, List, [], ◌∷◌, get_or, refl, sym, ap, ◌∙◌}
+use Rattle.std.proofs.Common.{◌≡◌, true, nat_eq, List, [], ◌∷◌, get_or, refl, sym, ap, ◌∙◌}
 use Rattle.co_rules.specs.declared.symbol.Nonterminal.{Nonterminal}
 use Rattle.co_rules.specs.declared.symbol.Nonterminal.TheVariants.{Item, Specifier, ClassRest, ResultType, GlobalName, FunctionName, GlobalRest, FunctionRest, FunctionBody, Noexcept, Const, Member, MemberOfClass, MemberOfOther, MethodName, FieldName, MethodRest, FieldRest, ConstructorRest, ConstructorBody, Defaulted, Initializer, NextInitializer, NoParameters, DestructorBody, Parameters, NextParameter, ParameterName, TypeId, Base, InnerClass, ClassPath, LibraryType, AtomicArgument, AtomicPointer, TypeRest, Pointers, Block, Statement, Else, Condition, ForHead, ForInit, Catch, CatchHead, CatchParameter, AfterBuiltin, AfterClass, AfterHandle, LibraryStatement, StatementPath, AfterOther, LocalRest, Value, Expression, Arguments, NextArgument, FirstArgument, FirstScope, FirstPath, Unary, GlobalScope, GivenArguments, NewRest, RunName, TextArgument, Built, LibraryOperand, HandleOperand, ClassOperand, Scope, Path, Postfix, Operators, ExpressionRest, Reference}
 use Rattle.co_rules.specs.Pattern.{nonterminal_number}
-use Rattle.co_grammar.proofs.Sets.{eq_true}
+use Rattle.co_rules.proofs.Sets.{eq_true}
 
 abbrev pub every : List Nonterminal
 every = Item ∷ Specifier ∷ ClassRest ∷ ResultType ∷ GlobalName ∷ FunctionName ∷ GlobalRest ∷ FunctionRest ∷ FunctionBody ∷ Noexcept ∷ Const ∷ Member ∷ MemberOfClass ∷ MemberOfOther ∷ MethodName ∷ FieldName ∷ MethodRest ∷ FieldRest ∷ ConstructorRest ∷ ConstructorBody ∷ Defaulted ∷ Initializer ∷ NextInitializer ∷ NoParameters ∷ DestructorBody ∷ Parameters ∷ NextParameter ∷ ParameterName ∷ TypeId ∷ Base ∷ InnerClass ∷ ClassPath ∷ LibraryType ∷ AtomicArgument ∷ AtomicPointer ∷ TypeRest ∷ Pointers ∷ Block ∷ Statement ∷ Else ∷ Condition ∷ ForHead ∷ ForInit ∷ Catch ∷ CatchHead ∷ CatchParameter ∷ AfterBuiltin ∷ AfterClass ∷ AfterHandle ∷ LibraryStatement ∷ StatementPath ∷ AfterOther ∷ LocalRest ∷ Value ∷ Expression ∷ Arguments ∷ NextArgument ∷ FirstArgument ∷ FirstScope ∷ FirstPath ∷ Unary ∷ GlobalScope ∷ GivenArguments ∷ NewRest ∷ RunName ∷ TextArgument ∷ Built ∷ LibraryOperand ∷ HandleOperand ∷ ClassOperand ∷ Scope ∷ Path ∷ Postfix ∷ Operators ∷ ExpressionRest ∷ Reference ∷ []

@@ -1,8 +1,7 @@
 -- Members of the sets of the test.
-use Rattle.std.proofs.Common.{◌≡◌, ℕ, ◌+◌, Bool, true, false, not, ◌&&◌, ◌||◌, nat_eq, List, [], ◌∷◌, ◌++◌, map, refl, sym, ap, ◌∙◌, subst, ◌⊎◌, inl, inr, arith}
-use Rattle.std.specs.List.{list_any}
+use Rattle.std.proofs.Common.{◌≡◌, ℕ, Bool, true, false, not, ◌&&◌, ◌||◌, nat_eq, List, [], ◌∷◌, ◌++◌, refl, sym, subst, ◌⊎◌, inl, inr, arith}
 use Rattle.std.proofs.lemmas.Bool.Decides.{nat_tests}
-use Rattle.co_grammar.proofs.Follow.{has, all_in, none_in, Set, anything, among, add, within, apart}
+use Rattle.co_rules.proofs.Follow.{has, all_in, none_in, Set, anything, among, add, within, apart}
 
 pub never : {A : Type 0} → false ≡ true → A
 never h = absurd cc
