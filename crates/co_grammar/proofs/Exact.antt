@@ -12,7 +12,7 @@ use Rattle.co_grammar.specs.Terminal.{terminal_of, terminals}
 use Rattle.co_grammar.proofs.Examples.{example, example-admits, plain-classes, suits-terminals}
 use Rattle.co_grammar.proofs.Fits.{start-fits}
 use Rattle.co_grammar.proofs.Scans.{Good, Stopped, stopped, Sunk, sunk, accepted, accepted-shallow, accepts}
-use Rattle.co_grammar.proofs.Tests.{start-lives}
+use Rattle.co_grammar.proofs.Living.{start-lives}
 
 start-good : (has : Bool) → Good has start
 start-good has = record { fits = start-fits; lives = start-lives has; ends = refl }

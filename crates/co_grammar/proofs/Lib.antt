@@ -10,4 +10,4 @@ mod Lives
 mod Picks
 mod Scans
 mod Steps
-mod Tests
+mod Living

@@ -16,7 +16,7 @@ use Rattle.co_rules.specs.Pattern.{admits, nonterminal_number}
 use Rattle.co_rules.specs.Rule.{Rule, rules, Stands}
 use Rattle.co_rules.proofs.Places.{number-same, every, at_place}
 use Rattle.co_rules.proofs.Sets.{never, and_split, or_split}
-use Rattle.co_grammar.proofs.Tests.{every-lives, item-lives, rules-live, rules-barren}
+use Rattle.co_grammar.proofs.Living.{every-lives, item-lives, rules-live, rules-barren}
 use Rattle.co_grammar.proofs.Picks.{none_some, and_true}
 use Rattle.co_grammar.proofs.Steps.{body_on, the_other, put_some, test_some, not_then, Plain, without}
 use Rattle.co_grammar.proofs.Lives.{is_class_pattern, fits_classes, grows, lives, live, living, all_live, all_barren}

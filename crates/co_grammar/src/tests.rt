@@ -556,17 +556,16 @@ fn two_hundred_levels_are_the_most(rt: HostRuntime) -> Result<(), Fail> {
     Ok(())
 }
 
-fn long_text(alloc: Global, before: &[u8], piece: &[u8], after: &[u8]) -> Result<Vec<u8>, Fail> {
+fn repeated(
+    alloc: Global,
+    before: &[u8],
+    piece: &[u8],
+    count: usize,
+    after: &[u8],
+) -> Result<Vec<u8>, Fail> {
     let mut text = Vec::new(alloc);
     append(&mut text, before, 1)?;
-    while text
-        .len()
-        .wrapping_add(piece.len())
-        .wrapping_add(after.len())
-        <= 65536
-    {
-        text.extend_from_slice(piece)?;
-    }
+    append(&mut text, piece, count)?;
     append(&mut text, after, 1)?;
     Ok(text)
 }
@@ -574,13 +573,14 @@ fn long_text(alloc: Global, before: &[u8], piece: &[u8], after: &[u8]) -> Result
 #[test]
 fn long_texts_end(rt: HostRuntime) -> Result<(), Fail> {
     let alloc = rt.alloc();
-    let parens = told(alloc, &long_text(alloc, b"int main(){", b"(", b"")?)?;
-    assert!(&rt; parens.as_str() == "Q1 1:211", "parentheses: {parens}");
-    let braces = told(alloc, &long_text(alloc, b"int main(){", b"{}", b"}")?)?;
-    assert!(&rt; braces.as_str() == "file", "braces: {braces}");
-    let names = told(alloc, &long_text(alloc, b"", b"struct A;", b"")?)?;
-    assert!(&rt; names.as_str() == "file", "names: {names}");
-    let statements = told(alloc, &long_text(alloc, b"int main(){", b"x;", b"}")?)?;
+    let open = told(alloc, &repeated(alloc, b"int main(){", b"(", 1048565, b"")?)?;
+    assert!(&rt; open.as_str() == "Q1 1:211", "parentheses: {open}");
+    let classes = told(alloc, &repeated(alloc, b"", b"struct A;", 8000, b"")?)?;
+    assert!(&rt; classes.as_str() == "file", "classes: {classes}");
+    let statements = told(
+        alloc,
+        &repeated(alloc, b"int main(){", b"{}x;", 8000, b"}")?,
+    )?;
     assert!(&rt; statements.as_str() == "file", "statements: {statements}");
     Ok(())
 }
