@@ -7,6 +7,7 @@ mod Fits
 mod Levels
 mod Live
 mod Lives
+mod Nearest
 mod Picks
 mod Scans
 mod Steps

@@ -124,7 +124,7 @@ first_of_one : (b : Bool) → (b || false) ≡ true → b ≡ true
 first_of_one true h = refl
 first_of_one false h = never h
 
-covers-admits : (p q : Pattern) (t : Terminal) → covers p q ≡ true → admits q t ≡ true → admits p t ≡ true
+pub covers-admits : (p q : Pattern) (t : Terminal) → covers p q ≡ true → admits q t ≡ true → admits p t ≡ true
 unfolding admits
 covers-admits p (pattern.Keyword w) (terminal.Word v) h a = both word_number (word_number w) (word_number v) (words p) (first_of_one (nat_eq (word_number w) (word_number v)) a) h
 covers-admits p (pattern.Punctuator w) (terminal.Mark v) h a = both mark_number (mark_number w) (mark_number v) (marks p) (first_of_one (nat_eq (mark_number w) (mark_number v)) a) h

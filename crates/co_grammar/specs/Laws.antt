@@ -6,6 +6,7 @@ use Rattle.co_grammar.specs.declared.scanner.TheConstants.{MOST_LEVELS}
 use Rattle.co_rules.specs.declared.symbol.Symbol.{Symbol}
 use Rattle.co_rules.specs.declared.symbol.Terminal.{Terminal}
 use Rattle.co_rules.specs.Derives.{Derives}
+use Rattle.co_grammar.specs.Loose.{Loosely}
 use Rattle.co_grammar.specs.Machine.{step, levels}
 use Rattle.co_grammar.specs.Names.{classes, has_some}
 use Rattle.co_rules.specs.Rule.{start}
@@ -52,3 +53,7 @@ abbrev pub DepthIsFirst : Type 0
 DepthIsFirst =
     (tokens : List Token) (at : ℕ) → scanned tokens ≡ Err (TooDeep at) → (at < length tokens) × IsBegun (classes tokens) (take (at + 1) tokens) × (MOST_LEVELS < slice_index (depths tokens) at)
     × IsShallow at (depths tokens)
+
+-- That an `else` belongs to the nearest `if` [stmt.if] refuses no list: what would be a file without that rule is one with it.
+abbrev pub NearestIfRefusesNone : Type 0
+NearestIfRefusesNone = (names : List (List ℕ)) (tokens : List Token) → Loosely start (terminals names tokens) → IsFile names tokens

@@ -1,4 +1,5 @@
 pub mod Laws
+pub mod Loose
 pub mod Machine
 pub mod Names
 pub mod Scan

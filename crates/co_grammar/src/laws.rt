@@ -1,4 +1,4 @@
-ghost use Rattle.co_grammar.specs.Laws.{AcceptsFiles, SyntaxIsFirst, DepthIsFirst};
+ghost use Rattle.co_grammar.specs.Laws.{AcceptsFiles, SyntaxIsFirst, DepthIsFirst, NearestIfRefusesNone};
 
 /// A law: a list of tokens is accepted exactly where the rules derive it and none of its tokens opens too many levels.
 pub fn accepts_files()
@@ -13,4 +13,9 @@ pub fn syntax_is_first()
 /// A law: the fault of nesting stands at the first token that opens too many levels, where no syntax fault stands there or before.
 pub fn depth_is_first()
     ensures { DepthIsFirst }
+{}
+
+/// A law: that an `else` belongs to the nearest `if` refuses no list [stmt.if].
+pub fn nearest_if_refuses_none()
+    ensures { NearestIfRefusesNone }
 {}
