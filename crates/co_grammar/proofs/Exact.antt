@@ -1,17 +1,22 @@
 -- What the first fault of a list of tokens means.
-use Rattle.std.proofs.Common.{◌≡◌, ℕ, zero, suc, ◌+◌, ◌<◌, ◌≤◌, Bool, false, List, [], ◌∷◌, ◌++◌, map, length, take, get_or, refl, sym, ap, ◌∙◌, subst, arith}
+use Rattle.std.proofs.Common.{Option, Some, None, ◌≡◌, ℕ, zero, suc, ◌+◌, ◌<◌, ◌≤◌, Bool, false, List, [], ◌∷◌, ◌++◌, map, length, take, get_or, refl, sym, ap, ◌∙◌, subst, arith}
 use Rattle.co_lex.specs.declared.token.Token.{Token}
 use Rattle.co_rules.specs.declared.symbol.Pattern.{Pattern}
 use Rattle.co_rules.specs.declared.symbol.Terminal.{Terminal}
 use Rattle.co_rules.specs.Derives.{Derives}
-use Rattle.co_grammar.specs.Laws.{IsFile, IsBegun, IsShallow, depths, AcceptsFiles, SyntaxIsFirst, DepthIsFirst}
+use Rattle.co_grammar.specs.Laws.{IsFile, IsBegun, IsShallow, depths, AcceptsFiles, SyntaxIsFirst, DepthIsFirst, StepsAreExact, IsStep, reached, reached_on}
 use Rattle.co_grammar.specs.Names.{classes, has_some}
 use Rattle.co_rules.specs.Rule.{start}
 use Rattle.co_grammar.specs.Scan.{scanned}
 use Rattle.co_grammar.specs.Terminal.{terminal_of, terminals}
-use Rattle.co_grammar.proofs.Examples.{example, example-admits, plain-classes, suits-terminals}
+use Rattle.co_grammar.specs.Machine.{step}
+use Rattle.co_grammar.proofs.Live.{completed}
+use Rattle.co_grammar.proofs.Picks.{none_some, some_same}
+use Rattle.co_grammar.proofs.Steps.{sound}
+use Rattle.co_rules.specs.declared.symbol.Symbol.{Symbol}
+use Rattle.co_grammar.proofs.Examples.{ArePlain, example, example-admits, plain-classes, suits-terminals}
 use Rattle.co_grammar.proofs.Fits.{start-fits}
-use Rattle.co_grammar.proofs.Scans.{Good, Stopped, stopped, Sunk, sunk, accepted, accepted-shallow, accepts}
+use Rattle.co_grammar.proofs.Scans.{Good, good-on, no_step, one_step, Stopped, stopped, Sunk, sunk, accepted, accepted-shallow, accepts}
 use Rattle.co_grammar.proofs.Living.{start-lives}
 
 start-good : (has : Bool) → Good has start
@@ -112,3 +117,32 @@ depth_is_first tokens at h =
     let p = sunk (has_some names) (seen names) (example-admits names (plain-classes false tokens)) 0 at (terminals names tokens) start (start-good (has_some names)) h in
     let is : p.count ≡ at = sym (p.is ∙ omega arith) in
     subst (DepthAt tokens) is (depth-count tokens at p)
+
+-- ---- each step
+
+good-from : (has : Bool) (t : Terminal) (stack after : List Symbol) (more : List Symbol → Option (List Symbol)) → Good has stack → ((next : List Symbol) → Good has next → more next ≡ Some after → Good has after) → (o : Option (List Symbol)) → o ≡ step has t stack → reached_on o more ≡ Some after → Good has after
+good-from has t stack after more g f None e h = none_some h
+good-from has t stack after more g f (Some next) e h = f next (good-on has t stack next g (sym e)) h
+
+good-reached : (has : Bool) (ts : List Terminal) (stack after : List Symbol) → Good has stack → reached has ts stack ≡ Some after → Good has after
+good-reached has [] stack after g h = subst (Good has) (some_same h) g
+good-reached has (t ∷ ts) stack after g h = good-from has t stack after (reached has ts) g (λ next k. good-reached has ts next after k) (step has t stack) refl h
+
+is-step : (names : List (List ℕ)) (plain : ArePlain names) (stack : List Symbol) (token : Token) (o : Option (List Symbol)) → Good (has_some names) stack → o ≡ step (has_some names) (terminal_of names token.kind) stack → IsStep names stack token o
+is-step names plain stack token None g e = λ more h. no_step (has_some names) (seen names) (example-admits names plain) (terminal_of names token.kind) stack (terminals names more) g (suits-terminals names more) (sym e) h
+is-step names plain stack token (Some after) g e = λ more. (
+  λ h. one_step (has_some names) (seen names) (example-admits names plain) (terminal_of names token.kind) stack after (terminals names more) g (suits-terminals names more) (sym e) h,
+  λ h. sound (has_some names) (terminal_of names token.kind) stack after (terminals names more) (sym e) h,
+)
+
+pub steps_are_exact : StepsAreExact
+steps_are_exact tokens before token stack h =
+    let names = classes tokens in
+    let g = good-reached (has_some names) (terminals names before) start stack (start-good (has_some names)) h in
+    let f = completed (has_some names) (seen names) (example-admits names (plain-classes false tokens)) stack g.lives in (
+      is-step names (plain-classes false tokens) stack token (step (has_some names) (terminal_of names token.kind) stack) g refl,
+      (
+        map (token_for names) f.examples,
+        subst (Derives stack) (sym (terminals-examples names f.examples)) f.derives,
+      ),
+    )

@@ -1,14 +1,14 @@
 mod Appends
 mod Bounds
 mod Classes
-mod Exact
-mod Examples
-mod Fits
+pub mod Exact
+pub mod Examples
+pub mod Fits
 mod Levels
-mod Live
-mod Lives
+pub mod Live
+pub mod Lives
 mod Nearest
-mod Picks
-mod Scans
-mod Steps
+pub mod Picks
+pub mod Scans
+pub mod Steps
 mod Living

@@ -89,7 +89,7 @@ pub record Good (has : Bool) (stack : List Symbol) : Type 0 where
   pub lives : grows (live has) has stack ≡ true
   pub ends : ends stack ≡ true
 
-good-on : (has : Bool) (t : Terminal) (stack after : List Symbol) → Good has stack → step has t stack ≡ Some after → Good has after
+pub good-on : (has : Bool) (t : Terminal) (stack after : List Symbol) → Good has stack → step has t stack ≡ Some after → Good has after
 good-on has t stack after g h = record { fits = preserved has t stack after g.fits h; lives = lives-on has t stack after g.lives h; ends = ends-on has t stack after g.ends h }
 
 pub data Went (at : ℕ) (o : Option (List Symbol)) (more : List Symbol → Answer) (r : Answer) : Type 0 where
@@ -186,10 +186,10 @@ module _ (has : Bool) (ex : Pattern → Terminal) (ok : (p : Pattern) → fits_c
     pub short : count ≡ length ts → Derives stack ts → ⊥
     pub shallow : IsShallow count (depths_from has ts stack)
 
-  no_step : (t : Terminal) (stack : List Symbol) (more : List Terminal) → Good has stack → Suits has more → step has t stack ≡ None → Derives stack (t ∷ more) → ⊥
+  pub no_step : (t : Terminal) (stack : List Symbol) (more : List Terminal) → Good has stack → Suits has more → step has t stack ≡ None → Derives stack (t ∷ more) → ⊥
   no_step t stack more g s o e = let k = complete has t more stack g.fits (suits-plain has more s) e in none_some (sym o ∙ k.is)
 
-  one_step : (t : Terminal) (stack after : List Symbol) (more : List Terminal) → Good has stack → Suits has more → step has t stack ≡ Some after → Derives stack (t ∷ more) → Derives after more
+  pub one_step : (t : Terminal) (stack after : List Symbol) (more : List Terminal) → Good has stack → Suits has more → step has t stack ≡ Some after → Derives stack (t ∷ more) → Derives after more
   one_step t stack after more g s o e =
       let k = complete has t more stack g.fits (suits-plain has more s) e in
       subst (λ x. Derives x more) (some_same (sym k.is ∙ o)) k.derives

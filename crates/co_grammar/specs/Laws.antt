@@ -11,7 +11,7 @@ use Rattle.co_grammar.specs.Machine.{step, levels}
 use Rattle.co_grammar.specs.Names.{classes, has_some}
 use Rattle.co_rules.specs.Rule.{start}
 use Rattle.co_grammar.specs.Scan.{scanned}
-use Rattle.co_grammar.specs.Terminal.{terminals}
+use Rattle.co_grammar.specs.Terminal.{terminal_of, terminals}
 
 -- the tokens are a file, where these are the names of classes
 abbrev pub IsFile : List (List ℕ) → List Token → Type 0
@@ -57,3 +57,23 @@ DepthIsFirst =
 -- That an `else` belongs to the nearest `if` [stmt.if] refuses no list: what would be a file without that rule is one with it.
 abbrev pub NearestIfRefusesNone : Type 0
 NearestIfRefusesNone = (names : List (List ℕ)) (tokens : List Token) → Loosely start (terminals names tokens) → IsFile names tokens
+
+-- the stack after the terminals
+abbrev pub reached_on : Option (List Symbol) → (List Symbol → Option (List Symbol)) → Option (List Symbol)
+reached_on None more = None
+reached_on (Some stack) more = more stack
+
+abbrev pub reached : Bool → List Terminal → List Symbol → Option (List Symbol)
+reached has_classes [] stack = Some stack
+reached has_classes (t ∷ ts) stack = reached_on (step has_classes t stack) (reached has_classes ts)
+
+-- The step from a stack: no step where no list that the stack derives begins with the token, else to a stack that derives what
+-- may follow the token there; and the stack derives some list.
+abbrev pub IsStep : List (List ℕ) → List Symbol → Token → Option (List Symbol) → Type 0
+IsStep names stack token None = (more : List Token) → Derives stack (terminals names (token ∷ more)) → ⊥
+IsStep names stack token (Some after) = (more : List Token) → Derives stack (terminals names (token ∷ more)) ↔ Derives after (terminals names more)
+
+abbrev pub StepsAreExact : Type 0
+StepsAreExact =
+    (tokens before : List Token) (token : Token) (stack : List Symbol) → let names = classes tokens in
+    reached (has_some names) (terminals names before) start ≡ Some stack → IsStep names stack token (step (has_some names) (terminal_of names token.kind) stack) × ((more : List Token) × Derives stack (terminals names more))

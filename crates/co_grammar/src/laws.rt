@@ -1,4 +1,4 @@
-ghost use Rattle.co_grammar.specs.Laws.{AcceptsFiles, SyntaxIsFirst, DepthIsFirst, NearestIfRefusesNone};
+ghost use Rattle.co_grammar.specs.Laws.{AcceptsFiles, SyntaxIsFirst, DepthIsFirst, NearestIfRefusesNone, StepsAreExact};
 
 /// A law: a list of tokens is accepted exactly where the rules derive it and none of its tokens opens too many levels.
 pub fn accepts_files()
@@ -18,4 +18,10 @@ pub fn depth_is_first()
 /// A law: that an `else` belongs to the nearest `if` refuses no list [stmt.if].
 pub fn nearest_if_refuses_none()
     ensures { NearestIfRefusesNone }
+{}
+
+/// A law: from each stack that is reached, the machine steps over a token exactly where a list that the stack derives begins with
+/// it, to a stack that derives exactly what may follow; and each such stack derives some list.
+pub fn steps_are_exact()
+    ensures { StepsAreExact }
 {}

@@ -12,7 +12,9 @@ mod terminal;
 mod tests;
 
 pub use fault::Fault;
-pub use laws::{accepts_files, depth_is_first, nearest_if_refuses_none, syntax_is_first};
+pub use laws::{
+    accepts_files, depth_is_first, nearest_if_refuses_none, steps_are_exact, syntax_is_first,
+};
 pub use machine::{body_for, step};
 pub use names::{ClassNames, class_names};
 pub use scanner::{MOST_LEVELS, scan};
