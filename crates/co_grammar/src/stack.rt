@@ -79,7 +79,7 @@ impl Stack {
     }
 
     /// These symbols more, the first one on top.
-    pub fn push_all(&mut self, body: &[Symbol]) -> Result<(), NoMemory>
+    pub(crate) fn push_all(&mut self, body: &[Symbol]) -> Result<(), NoMemory>
         ensures { OnOk result (self.new ≡ body.now ++ self.old) }
     {
         let mut left = body.len();
