@@ -1,0 +1,13 @@
+use Rattle.std.proofs.Common.{sym, ◌∙◌}
+use Rattle.co_rules.specs.declared.symbol.Nonterminal.TheVariants as nonterminal
+use Rattle.co_rules.specs.Rule.{in_local}
+use Rattle.co_grammar.proofs.Bounds.{outside, local-bounds}
+use Rattle.co_grammar.proofs.machine.in_local.Goals as goal
+
+pub returns-then-not-is_between : goal.returns-then-not-is_between
+returns-then-not-is_between c =
+    outside c.args.has_classes c.args.of nonterminal.AfterBuiltin nonterminal.LocalRest c.args.terminal in_local local-bounds (sym c.is_between.ensures ∙ c.if-not-is_between.true)
+
+pub returns : goal.returns
+unfolding in_local
+returns c = c.body_among.ensures

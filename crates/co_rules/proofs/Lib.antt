@@ -1,0 +1,6 @@
+pub mod Follow
+pub mod Numbers
+pub mod Places
+pub mod Sets
+pub mod Tested
+pub mod Unique

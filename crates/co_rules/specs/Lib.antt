@@ -1,0 +1,4 @@
+pub mod Derives
+pub mod Laws
+pub mod Pattern
+pub mod Rule
