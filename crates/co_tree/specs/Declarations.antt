@@ -25,6 +25,8 @@ use Rattle.co_tree.specs.declared.declarations.Destructor.{Destructor}
 use Rattle.co_tree.specs.declared.declarations.AccessSpecifier.{AccessSpecifier}
 use Rattle.co_tree.specs.declared.declarations.AccessSpecifier.TheVariants as access
 use Rattle.co_tree.specs.declared.declarations.ClassDefinition.{ClassDefinition}
+use Rattle.co_tree.specs.declared.declarations.MemberDeclaration.{MemberDeclaration, Row_of-MemberDeclaration, end_of-MemberDeclaration, more_of-MemberDeclaration}
+use Rattle.co_tree.specs.declared.declarations.MemberDeclaration.TheVariants as member_of
 use Rattle.co_tree.specs.declared.declarations.Declaration.{Declaration}
 use Rattle.co_tree.specs.declared.declarations.Declaration.TheVariants as declaration
 use Rattle.co_tree.specs.declared.declarations.Tree.{Tree}
@@ -122,3 +124,47 @@ abbrev pub access_word : AccessSpecifier → Word
 access_word access.Public = word.Public
 access_word access.Private = word.Private
 access_word access.Protected = word.Protected
+
+abbrev mutual
+  -- member = access | class | forward | alias | field | method | ctor | dtor
+  pub member : MemberDeclaration → List Piece
+  member (member_of.Access specifier at) = line ∷ node at ∷ w (access_word specifier) ∷ m mark.Colon ∷ []
+  -- class = key NAME "{" { member } "}" ";"
+  member (member_of.Class' key n s row at) = line ∷ node at ∷ w (key_word key) ∷ name n ∷ (in_braces (row_members row) ++ m mark.Semicolon ∷ [])
+  member (member_of.Forward f) = line ∷ forward f
+  member (member_of.Alias a) = line ∷ alias a
+  member (member_of.Field v) = line ∷ variable v
+  member (member_of.Method f) = line ∷ function f
+  member (member_of.Constructor c) = line ∷ constructor c
+  member (member_of.Destructor d) = line ∷ destructor d
+
+  -- { member }
+  pub row_members : {n : _} → Row_of-MemberDeclaration n → List Piece
+  row_members end_of-MemberDeclaration = []
+  row_members (more_of-MemberDeclaration d rest) = member d ++ row_members rest
+
+-- { member }
+abbrev pub members : List MemberDeclaration → List Piece
+members [] = []
+members (d ∷ ds) = member d ++ members ds
+
+-- class = key NAME "{" { member } "}" ";"
+abbrev pub class : ClassDefinition → List Piece
+class c = node c.span ∷ w (key_word c.key) ∷ name c.name ∷ (in_braces (members c.members) ++ m mark.Semicolon ∷ [])
+
+-- item = class | forward | alias | global | function
+abbrev pub item : Declaration → List Piece
+item (declaration.Class c) = line ∷ class c
+item (declaration.Forward f) = line ∷ forward f
+item (declaration.Alias a) = line ∷ alias a
+item (declaration.Global v) = line ∷ variable v
+item (declaration.Function f) = line ∷ function f
+
+-- { item }
+abbrev pub items : List Declaration → List Piece
+items [] = []
+items (d ∷ ds) = item d ++ items ds
+
+-- file = { item } END
+abbrev pub sentence_of : Tree → List Piece
+sentence_of tree = items tree.declarations ++ line ∷ token kind.End ∷ []

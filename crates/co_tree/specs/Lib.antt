@@ -1,3 +1,5 @@
 pub mod Piece
 pub mod Types
 pub mod Sentence
+pub mod Statements
+pub mod Declarations

@@ -14,6 +14,7 @@ use Rattle.co_tree.specs.declared.statements.ForInit.TheVariants as for_init
 use Rattle.co_tree.specs.declared.statements.Returned.{Returned}
 use Rattle.co_tree.specs.declared.statements.Returned.TheVariants as returned
 use Rattle.co_tree.specs.declared.statements.Block.{Block}
+use Rattle.co_tree.specs.declared.statements.Handler.{Handler}
 use Rattle.co_tree.specs.declared.statements.Statement.{Statement, Row_of-Statement, end_of-Statement, more_of-Statement, Row_of-Handler, end_of-Handler, more_of-Handler}
 use Rattle.co_tree.specs.declared.statements.Statement.TheVariants as stmt
 use Rattle.co_tree.specs.Piece.{Piece, line, node, opens, w, m, name, rule, in_parentheses, in_braces}
@@ -72,3 +73,57 @@ abbrev pub returned_value : Returned → List Piece
 returned_value returned.None = []
 returned_value (returned.Value e) = full e
 returned_value (returned.Braces es) = braces es
+
+abbrev mutual
+  -- stmt = block | ";" | local | expr ";" | try
+  --      | "if" "(" expr ")" stmt [ "else" stmt ] | "while" "(" expr ")" stmt
+  --      | "for" "(" ( local | [ expr ] ";" ) [ expr ] ";" [ expr ] ")" stmt
+  --      | "break" ";" | "continue" ";" | "return" [ expr | braces ] ";" | "co_return" [ expr ] ";"
+  pub statement : Statement → List Piece
+  statement (stmt.Block' s row at) = line ∷ node at ∷ in_braces (row_statements row)
+  statement (stmt.Empty at) = line ∷ node at ∷ m mark.Semicolon ∷ []
+  statement (stmt.Local v) = line ∷ variable v
+  statement (stmt.Expression e at) = line ∷ node at ∷ (full e ++ m mark.Semicolon ∷ [])
+  -- try = "try" block catch { catch }
+  statement (stmt.Try' s row at t handlers end) = line ∷ node end ∷ w word.Try ∷ node at ∷ (in_braces (row_statements row) ++ row_handlers handlers)
+  statement (stmt.If' e s (more_of-Statement then end_of-Statement) at) =
+      line ∷ rule (node at ∷ opens ∷ w word.If ∷ (in_parentheses (full e) ++ statement then))
+  statement (stmt.IfElse' e s (more_of-Statement then end_of-Statement) t (more_of-Statement else end_of-Statement) at) =
+      line ∷ rule (node at ∷ opens ∷ w word.If ∷ (in_parentheses (full e) ++ (statement then ++ w word.Else ∷ statement else)))
+  statement (stmt.While' e s (more_of-Statement body end_of-Statement) at) =
+      line ∷ rule (node at ∷ opens ∷ w word.While ∷ (in_parentheses (full e) ++ statement body))
+  statement (stmt.For' init condition step s (more_of-Statement body end_of-Statement) at) =
+      line ∷ rule (node at ∷ opens ∷ w word.For ∷ (in_parentheses (for_head init ++ (full_if condition ++ m mark.Semicolon ∷ full_if step)) ++ statement body))
+  statement (stmt.Break at) = line ∷ node at ∷ w word.Break ∷ m mark.Semicolon ∷ []
+  statement (stmt.Continue at) = line ∷ node at ∷ w word.Continue ∷ m mark.Semicolon ∷ []
+  statement (stmt.Return value at) = line ∷ node at ∷ w word.Return ∷ (returned_value value ++ m mark.Semicolon ∷ [])
+  statement (stmt.CoReturn value at) = line ∷ node at ∷ w word.CoReturn ∷ (full_if value ++ m mark.Semicolon ∷ [])
+
+  -- { stmt }
+  pub row_statements : {n : _} → Row_of-Statement n → List Piece
+  row_statements end_of-Statement = []
+  row_statements (more_of-Statement s rest) = statement s ++ row_statements rest
+
+  -- { catch }, where catch = "catch" "(" ( "..." | type [ NAME ] ) ")" block
+  pub row_handlers : {n : _} → Row_of-Handler n → List Piece
+  row_handlers end_of-Handler = []
+  row_handlers (more_of-Handler caught s row at span rest) =
+      node span ∷ w word.Catch ∷ (in_parentheses (caught_by caught) ++ node at ∷ (in_braces (row_statements row) ++ row_handlers rest))
+
+-- { stmt }
+abbrev pub statements : List Statement → List Piece
+statements [] = []
+statements (s ∷ ss) = statement s ++ statements ss
+
+-- block = "{" { stmt } "}"
+abbrev pub block : Block → List Piece
+block b = node b.span ∷ in_braces (statements b.statements)
+
+-- catch = "catch" "(" ( "..." | type [ NAME ] ) ")" block
+abbrev pub handler : Handler → List Piece
+handler h = node h.span ∷ w word.Catch ∷ (in_parentheses (caught_by h.caught) ++ block h.body)
+
+-- { catch }
+abbrev pub handlers : List Handler → List Piece
+handlers [] = []
+handlers (h ∷ hs) = handler h ++ handlers hs
