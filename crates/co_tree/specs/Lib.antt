@@ -3,3 +3,4 @@ pub mod Types
 pub mod Sentence
 pub mod Statements
 pub mod Declarations
+pub mod Derives

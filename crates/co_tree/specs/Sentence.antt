@@ -99,20 +99,20 @@ handle_function FromAddress = name (codes "from_address")
 handle_function FromPromise = name (codes "from_promise")
 
 -- "std" "::" ( "move" | "exchange" | "noop_coroutine" | "terminate" | "current_exception" | "rethrow_exception" )
-abbrev pub standard_function : StandardFunction → List Piece
-standard_function std_fn.Move = standard (codes "move")
-standard_function std_fn.Exchange = standard (codes "exchange")
-standard_function std_fn.NoopCoroutine = standard (codes "noop_coroutine")
-standard_function std_fn.Terminate = standard (codes "terminate")
-standard_function std_fn.CurrentException = standard (codes "current_exception")
-standard_function std_fn.RethrowException = standard (codes "rethrow_exception")
+abbrev pub standard_name : StandardFunction → List ℕ
+standard_name std_fn.Move = codes "move"
+standard_name std_fn.Exchange = codes "exchange"
+standard_name std_fn.NoopCoroutine = codes "noop_coroutine"
+standard_name std_fn.Terminate = codes "terminate"
+standard_name std_fn.CurrentException = codes "current_exception"
+standard_name std_fn.RethrowException = codes "rethrow_exception"
 
 -- "corun" "::" ( "print" | "post" | "input" | "inputs" )
-abbrev pub corun_function : CorunFunction → List Piece
-corun_function corun_fn.Print = of_corun (codes "print")
-corun_function corun_fn.Post = of_corun (codes "post")
-corun_function corun_fn.Input = of_corun (codes "input")
-corun_function corun_fn.Inputs = of_corun (codes "inputs")
+abbrev pub corun_name : CorunFunction → List ℕ
+corun_name corun_fn.Print = codes "print"
+corun_name corun_fn.Post = codes "post"
+corun_name corun_fn.Input = codes "input"
+corun_name corun_fn.Inputs = codes "inputs"
 
 -- "(" .. ")" | "{" .. "}"
 abbrev pub in_brackets : Brackets → List Piece → List Piece
@@ -186,8 +186,8 @@ abbrev mutual
   expression (expr.OperatorNew' s args at) = node at ∷ m mark.Scope ∷ w word.Operator ∷ w word.New ∷ in_parentheses (row_arguments args)
   expression (expr.OperatorDelete' s args at) = node at ∷ m mark.Scope ∷ w word.Operator ∷ w word.Delete ∷ in_parentheses (row_arguments args)
   expression (expr.HandleFunction promise function at) = node at ∷ (handle promise ++ m mark.Scope ∷ handle_function function ∷ [])
-  expression (expr.StandardFunction function at) = node at ∷ standard_function function
-  expression (expr.CorunFunction function at) = node at ∷ corun_function function
+  expression (expr.StandardFunction function at) = node at ∷ standard (standard_name function)
+  expression (expr.CorunFunction function at) = node at ∷ of_corun (corun_name function)
 
   -- args = expr { "," expr }, or nothing
   pub row_arguments : {n : _} → Row_of-Expression n → List Piece

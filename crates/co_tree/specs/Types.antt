@@ -30,9 +30,12 @@ abbrev pub path_if : Option Path → List Piece
 path_if None = []
 path_if (Some p) = path p
 
+unfoldable pub handle_name : List ℕ
+handle_name = codes "coroutine_handle"
+
 -- handle = "std" "::" "coroutine_handle" "<" [ path ] ">"
 abbrev pub handle : Option Path → List Piece
-handle promise = standard (codes "coroutine_handle") ++ m mark.Less ∷ (path_if promise ++ m mark.Greater ∷ [])
+handle promise = standard handle_name ++ m mark.Less ∷ (path_if promise ++ m mark.Greater ∷ [])
 
 -- "int" | "long" | "bool" | "void" "*"
 abbrev pub atomic_argument : AtomicKind → List Piece

@@ -1,0 +1,4 @@
+pub mod Puts
+pub mod Opening
+pub mod Separated
+pub mod Steps
