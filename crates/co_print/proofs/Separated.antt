@@ -31,3 +31,24 @@ argument_step first s s1 s2 s0 es i e lt is e1 e2 h =
     ∙ sym (first_argument first s e (drop (i + 1) es))
     ∙ ap (λ l. put_all s (arguments_from first l)) (sym cons)
     ∙ h
+
+-- a list from the first part on, or from a later one on
+abbrev pub from : {A : Type 0} → (List A → List Piece) → (List A → List Piece) → Bool → List A → List Piece
+from all after true xs = all xs
+from all after false xs = after xs
+
+pub separated_step : {A : Type 0} (one : A → List Piece) (all after : List A → List Piece) (before : Bool → List Piece) →
+    ((x : A) (xs : List A) → all (x ∷ xs) ≡ before true ++ (one x ++ after xs)) → ((x : A) (xs : List A) → after (x ∷ xs) ≡ before false ++ (one x ++ after xs)) →
+    (first : Bool) (s s1 s2 s0 : Printer) (xs : List A) (i : ℕ) (x : A) → i < length xs → x ≡ get_or xs i x →
+    s1 ≡ put_all s (before first) → s2 ≡ put_all s1 (one x) → put_all s (from all after first (drop i xs)) ≡ s0 → put_all s2 (after (drop (i + 1) xs)) ≡ s0
+separated_step one all after before opened later first s s1 s2 s0 xs i x lt is e1 e2 h =
+    let cons : drop i xs ≡ x ∷ drop (i + 1) xs = rw add-one (drop-cons xs i x lt ∙ ap (λ y. y ∷ drop (suc i) xs) (sym is)) in
+    ap (λ t. put_all t (after (drop (i + 1) xs))) (e2 ∙ ap (λ t. put_all t (one x)) e1)
+    ∙ sym (put_append (put_all s (before first)) (one x) (after (drop (i + 1) xs)))
+    ∙ sym (put_append s (before first) (one x ++ after (drop (i + 1) xs)))
+    ∙ ap (put_all s) (sym (ap (from all after first) cons ∙ at first))
+    ∙ h
+  where
+    at : (b : Bool) → from all after b (x ∷ drop (i + 1) xs) ≡ before b ++ (one x ++ after (drop (i + 1) xs))
+    at true = opened x (drop (i + 1) xs)
+    at false = later x (drop (i + 1) xs)

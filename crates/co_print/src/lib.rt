@@ -2,7 +2,12 @@
 #![tactic(auto)]
 
 mod buffer;
+mod declarations;
 mod expressions;
+mod print;
 mod printer;
 mod spelling;
+mod statements;
 mod types;
+
+pub use print::print_tree;

@@ -115,6 +115,14 @@ impl Printer {
         Ok(())
     }
 
+    /// The end of the file, which only ends the last line.
+    #[tactic(auto, unfolding(crate::specs::Printed::put_token))]
+    pub fn end(&mut self) -> Result<(), NoMemory>
+        ensures { OnOk result (self.new ≡ put_token self.old kind.End) }
+    {
+        self.token(b"")
+    }
+
     /// The word, where it is said.
     pub fn word_if(&mut self, is_said: bool, word: Word) -> Result<(), NoMemory>
         ensures { OnOk result (self.new ≡ put_all self.old (if_said is_said (token (kind.Word word)))) }

@@ -50,10 +50,13 @@ abbrev pub alias : AliasDeclaration → List Piece
 alias a = node a.span ∷ w word.Using ∷ name a.name ∷ m mark.Assign ∷ (type_id a.of ++ m mark.Semicolon ∷ [])
 
 -- { "static" | "inline" }
+abbrev pub specifier_word : FunctionSpecifier → Word
+specifier_word specifier.Static = word.Static
+specifier_word specifier.Inline = word.Inline
+
 abbrev pub specifiers : List FunctionSpecifier → List Piece
 specifiers [] = []
-specifiers (specifier.Static ∷ rest) = w word.Static ∷ specifiers rest
-specifiers (specifier.Inline ∷ rest) = w word.Inline ∷ specifiers rest
+specifiers (s ∷ rest) = w (specifier_word s) ∷ specifiers rest
 
 -- fname = NAME | "operator" ( "co_await" | "new" | "delete" )
 abbrev pub function_named : FunctionName → List Piece
@@ -84,9 +87,13 @@ function f =
     node f.span ∷ (specifiers f.specifiers ++ (type_id f.result ++ (function_named f.name ++ (in_parentheses (parameters f.parameters)
     ++ (if_said f.is_const (w word.Const) ++ (if_said f.is_noexcept (w word.Noexcept) ++ block_or_semicolon f.body))))))
 
+-- "(" [ args ] ")" | braces
+abbrev pub bracketed : MemberInitializer → List Piece
+bracketed i = in_brackets i.brackets (arguments i.arguments)
+
 -- init = NAME ( "(" [ args ] ")" | braces )
 abbrev pub member_initializer : MemberInitializer → List Piece
-member_initializer i = node i.span ∷ name i.name ∷ in_brackets i.brackets (arguments i.arguments)
+member_initializer i = node i.span ∷ name i.name ∷ bracketed i
 
 -- { "," init }
 abbrev pub member_initializers_after : List MemberInitializer → List Piece

@@ -4,3 +4,5 @@ pub mod Sentence
 pub mod Statements
 pub mod Declarations
 pub mod Derives
+pub mod Formed
+pub mod FormedTree

@@ -160,8 +160,8 @@ abbrev mutual
   --       | [ "::" ] "new" base { "*" } [ "(" [ args ] ")" | braces ] | [ "::" ] "delete" unary | postfix
   expression (expr.Unary' op s (more_of-Expression e end_of-Expression) at) = node at ∷ opens ∷ unary_token op ∷ rule (expression e)
   expression (expr.New is_global base pointers at) = node at ∷ (global is_global ++ opens ∷ w word.New ∷ (simple_type base ++ stars pointers))
-  expression (expr.NewWith' is_global base pointers brackets s args at) =
-      node at ∷ (global is_global ++ opens ∷ w word.New ∷ (simple_type base ++ (stars pointers ++ in_brackets brackets (row_arguments args))))
+  expression (expr.NewWith' is_global base pointers how s args at) =
+      node at ∷ (global is_global ++ opens ∷ w word.New ∷ (simple_type base ++ (stars pointers ++ in_brackets how (row_arguments args))))
   expression (expr.Delete' is_global s (more_of-Expression e end_of-Expression) at) = node at ∷ (global is_global ++ opens ∷ w word.Delete ∷ rule (expression e))
   -- postfix = primary { ( "." | "->" ) NAME | "(" [ args ] ")" | "++" | "--" }
   expression (expr.Member' s (more_of-Expression e end_of-Expression) op n at) =
@@ -179,7 +179,7 @@ abbrev mutual
   expression (expr.Name p) = path p
   expression (expr.Parenthesized' s (more_of-Expression e end_of-Expression) at) = node at ∷ in_parentheses (rule (expression e))
   -- built = base ( braces | "(" [ args ] ")" )
-  expression (expr.Construction' base brackets s args) = simple_type base ++ in_brackets brackets (row_arguments args)
+  expression (expr.Construction' base how s args) = simple_type base ++ in_brackets how (row_arguments args)
   expression (expr.Text text at) = node at ∷ (of_corun (codes "text") ++ in_parentheses (token (kind.Lit text) ∷ []))
   expression (expr.StaticCast' of s (more_of-Expression e end_of-Expression) at) =
       node at ∷ w word.StaticCast ∷ m mark.Less ∷ (type_id of ++ m mark.Greater ∷ in_parentheses (rule (expression e)))

@@ -74,6 +74,18 @@ returned_value returned.None = []
 returned_value (returned.Value e) = full e
 returned_value (returned.Braces es) = braces es
 
+-- "(" ( local | [ expr ] ";" ) [ expr ] ";" [ expr ] ")"
+abbrev pub for_parentheses : ForInit → Option Expression → Option Expression → List Piece
+for_parentheses init condition step = in_parentheses (for_head init ++ (full_if condition ++ m mark.Semicolon ∷ full_if step))
+
+-- "(" expr ")"
+abbrev pub condition : Expression → List Piece
+condition e = in_parentheses (full e)
+
+-- "catch" "(" ( "..." | type [ NAME ] ) ")"
+abbrev pub catch_head : Caught → List Piece
+catch_head caught = w word.Catch ∷ in_parentheses (caught_by caught)
+
 abbrev mutual
   -- stmt = block | ";" | local | expr ";" | try
   --      | "if" "(" expr ")" stmt [ "else" stmt ] | "while" "(" expr ")" stmt
@@ -87,13 +99,13 @@ abbrev mutual
   -- try = "try" block catch { catch }
   statement (stmt.Try' s row at t handlers end) = line ∷ node end ∷ w word.Try ∷ node at ∷ (in_braces (row_statements row) ++ row_handlers handlers)
   statement (stmt.If' e s (more_of-Statement then end_of-Statement) at) =
-      line ∷ rule (node at ∷ opens ∷ w word.If ∷ (in_parentheses (full e) ++ statement then))
+      line ∷ rule (node at ∷ opens ∷ w word.If ∷ (condition e ++ statement then))
   statement (stmt.IfElse' e s (more_of-Statement then end_of-Statement) t (more_of-Statement else end_of-Statement) at) =
-      line ∷ rule (node at ∷ opens ∷ w word.If ∷ (in_parentheses (full e) ++ (statement then ++ w word.Else ∷ statement else)))
+      line ∷ rule (node at ∷ opens ∷ w word.If ∷ (condition e ++ (statement then ++ w word.Else ∷ statement else)))
   statement (stmt.While' e s (more_of-Statement body end_of-Statement) at) =
-      line ∷ rule (node at ∷ opens ∷ w word.While ∷ (in_parentheses (full e) ++ statement body))
-  statement (stmt.For' init condition step s (more_of-Statement body end_of-Statement) at) =
-      line ∷ rule (node at ∷ opens ∷ w word.For ∷ (in_parentheses (for_head init ++ (full_if condition ++ m mark.Semicolon ∷ full_if step)) ++ statement body))
+      line ∷ rule (node at ∷ opens ∷ w word.While ∷ (condition e ++ statement body))
+  statement (stmt.For' init c step s (more_of-Statement body end_of-Statement) at) =
+      line ∷ rule (node at ∷ opens ∷ w word.For ∷ (for_parentheses init c step ++ statement body))
   statement (stmt.Break at) = line ∷ node at ∷ w word.Break ∷ m mark.Semicolon ∷ []
   statement (stmt.Continue at) = line ∷ node at ∷ w word.Continue ∷ m mark.Semicolon ∷ []
   statement (stmt.Return value at) = line ∷ node at ∷ w word.Return ∷ (returned_value value ++ m mark.Semicolon ∷ [])
@@ -108,7 +120,7 @@ abbrev mutual
   pub row_handlers : {n : _} → Row_of-Handler n → List Piece
   row_handlers end_of-Handler = []
   row_handlers (more_of-Handler caught s row at span rest) =
-      node span ∷ w word.Catch ∷ (in_parentheses (caught_by caught) ++ node at ∷ (in_braces (row_statements row) ++ row_handlers rest))
+      (node span ∷ (catch_head caught ++ node at ∷ in_braces (row_statements row))) ++ row_handlers rest
 
 -- { stmt }
 abbrev pub statements : List Statement → List Piece
@@ -121,7 +133,7 @@ block b = node b.span ∷ in_braces (statements b.statements)
 
 -- catch = "catch" "(" ( "..." | type [ NAME ] ) ")" block
 abbrev pub handler : Handler → List Piece
-handler h = node h.span ∷ w word.Catch ∷ (in_parentheses (caught_by h.caught) ++ block h.body)
+handler h = node h.span ∷ (catch_head h.caught ++ block h.body)
 
 -- { catch }
 abbrev pub handlers : List Handler → List Piece
