@@ -5,3 +5,5 @@ pub mod Steps
 pub mod OpeningStatements
 pub mod OpeningMembers
 pub mod StepsStatements
+pub mod Lexemes
+pub mod Respelled

@@ -4,10 +4,12 @@
 mod buffer;
 mod declarations;
 mod expressions;
+mod laws;
 mod print;
 mod printer;
 mod spelling;
 mod statements;
 mod types;
 
+pub use laws::printed_spells;
 pub use print::print_tree;
