@@ -6,3 +6,4 @@ pub mod Declarations
 pub mod Derives
 pub mod Formed
 pub mod FormedTree
+pub mod Strip
