@@ -1,5 +1,5 @@
 -- A token that some text spells is spelled by the canonical text too, where white space or nothing comes after it.
-use Rattle.std.specs.Prelude.{◌≡◌, ◌≢◌, ℕ, ◌≤◌, ◌<◌, ◌^◌, ◌||◌, ◌&&◌, ◌==◌, nat_lt, nat_eq, if◌then◌else◌, Bool, true, false, ◌⊎◌, List, [], ◌∷◌, ◌++◌, length, slice_index, ℤ, pos}
+use Rattle.std.specs.Prelude.{◌≡◌, ◌≢◌, ℕ, ◌≤◌, ◌<◌, ◌^◌, ◌||◌, ◌&&◌, ◌==◌, nat_lt, if◌then◌else◌, Bool, true, false, ◌⊎◌, List, [], ◌∷◌, ◌++◌, length, slice_index, pos}
 use Rattle.std.specs.Fmt.{decimal}
 use Rattle.std.proofs.Common.{refl, ap, sym, ◌∙◌, subst, inl, inr, arith, rules}
 use Rattle.std.proofs.lemmas.Bool.{eqb-false, ne_eqb}
@@ -232,8 +232,8 @@ number_lexeme (d ∷ ds) text n begins all digit led small suf rest e =
     let same : decimal (value_after 0 digits) ≡ digits = decimal-digits_value own digits digit some (led_once digits some led) wide in
     subst (λ t. IsToken (t ++ suffix n) rest (kind.Int n (pos (value_after 0 digits)))) (sym same)
     (s.number (digits ++ suffix n) rest n (pos (value_after 0 digits)) begins
-        (all_append class.Number digits (suffix n) (all_front class.Number digits text all) (suffix_all n)) (stops_number rest e)
-        (s.decimal digits (suffix n) n digit led small (resuffix text (value_after 0 digits) n suf)))
+    (all_append class.Number digits (suffix n) (all_front class.Number digits text all) (suffix_all n)) (stops_number rest e)
+    (s.decimal digits (suffix n) n digit led small (resuffix text (value_after 0 digits) n suf)))
 
 -- ---- any token
 

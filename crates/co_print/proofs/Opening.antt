@@ -16,7 +16,7 @@ use Rattle.co_tree.specs.declared.expressions.Brackets.{Brackets}
 use Rattle.co_tree.specs.declared.expressions.Expression.{Expression, Row_of-Expression, end_of-Expression, more_of-Expression, items-the_row-Expression, items_hidden-the_row-Expression-1}
 use Rattle.co_tree.specs.declared.expressions.Expression.TheVariants as expr
 use Rattle.co_tree.specs.declared.expressions.Expression.TheBlock.{shape-the_row-Expression-0, hidden-the_row-Expression-0, shown-the_row-Expression-0}
-use Rattle.co_tree.specs.Piece.{Piece, node, opens, w, m, name, rule, in_parentheses}
+use Rattle.co_tree.specs.Piece.{node, opens, w, m, name, rule, in_parentheses}
 use Rattle.co_tree.specs.Types.{simple_type, stars, type_id}
 use Rattle.co_tree.specs.Sentence.{assignment_mark, binary_mark, unary_token, step_mark, member_mark, in_brackets, is_binary, is_postfix, part, global, expression, row_arguments, row_arguments_after, arguments, arguments_after}
 

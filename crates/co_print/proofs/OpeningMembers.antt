@@ -7,7 +7,7 @@ use Rattle.co_lex.specs.declared.token.Mark.TheVariants as mark
 use Rattle.co_tree.specs.declared.declarations.ClassKey.{ClassKey}
 use Rattle.co_tree.specs.declared.declarations.MemberDeclaration.{MemberDeclaration, Row_of-MemberDeclaration, end_of-MemberDeclaration, more_of-MemberDeclaration, items-the_row-MemberDeclaration, items_hidden-the_row-MemberDeclaration-0}
 use Rattle.co_tree.specs.declared.declarations.MemberDeclaration.TheVariants as member_of
-use Rattle.co_tree.specs.Piece.{Piece, line, node, w, m, name, in_braces}
+use Rattle.co_tree.specs.Piece.{line, node, w, m, name, in_braces}
 use Rattle.co_tree.specs.Declarations.{key_word, member, members, row_members}
 
 rows_members : (n : Count) (row : Row_of-MemberDeclaration n) → row_members row ≡ members (items-the_row-MemberDeclaration n row)

@@ -1,5 +1,5 @@
 -- The sentence of each statement that has others in it, by the lists and the values of its parts.
-use Rattle.std.specs.Prelude.{◌≡◌, List, [], ◌∷◌, ◌++◌, Option}
+use Rattle.std.specs.Prelude.{◌≡◌, List, ◌∷◌, ◌++◌, Option}
 use Rattle.std.proofs.Common.{refl, ap, sym, ◌∙◌}
 use mathlib.Core.Former.{Count}
 use Rattle.co_base.specs.declared.span.Span.{Span}
@@ -11,8 +11,8 @@ use Rattle.co_tree.specs.declared.statements.Handler.{Handler}
 use Rattle.co_tree.specs.declared.statements.Statement.{Statement, Row_of-Statement, end_of-Statement, more_of-Statement, Row_of-Handler, end_of-Handler, more_of-Handler, items-the_row-Statement, items-the_row-Handler, items_hidden-the_row-Statement-0, items_shown-the_row-Statement-0, items_hidden-the_row-Handler-1}
 use Rattle.co_tree.specs.declared.statements.Statement.TheVariants as stmt
 use Rattle.co_tree.specs.declared.statements.Statement.TheBlock.{shown-the_row-Statement-0, shape-the_row-Statement-2, hidden-the_row-Statement-2, shown-the_row-Statement-2}
-use Rattle.co_tree.specs.Piece.{Piece, line, node, opens, w, rule, in_braces}
-use Rattle.co_tree.specs.Statements.{condition, for_parentheses, catch_head, statement, row_statements, row_handlers, statements, block, handler, handlers}
+use Rattle.co_tree.specs.Piece.{line, node, opens, w, rule, in_braces}
+use Rattle.co_tree.specs.Statements.{condition, for_parentheses, catch_head, statement, row_statements, row_handlers, statements, block, handlers}
 
 pub sentence_if : (e : Expression) (then : Statement) (at : Span) → statement (stmt.If e then at) ≡ line ∷ rule (node at ∷ opens ∷ w word.If ∷ (condition e ++ statement then))
 unfolding shape-the_row-Statement-2 hidden-the_row-Statement-2 shown-the_row-Statement-2 denote.Hole.Carrier.hidden

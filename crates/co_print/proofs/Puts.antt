@@ -1,6 +1,6 @@
 -- What the pieces of a sentence put, one after the other.
 use Rattle.std.specs.Prelude.{◌≡◌, List, [], ◌∷◌, ◌++◌, Bool, true, false}
-use Rattle.std.proofs.Common.{refl, ap, ◌∙◌}
+use Rattle.std.proofs.Common.{refl}
 use Rattle.co_lex.specs.declared.token.TokenKind.TheVariants as kind
 use Rattle.co_lex.specs.declared.token.Mark.TheVariants as mark
 use Rattle.co_tree.specs.Piece.{Piece, m, leave, rule, in_parentheses, in_braces}

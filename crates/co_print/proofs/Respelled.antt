@@ -11,7 +11,6 @@ use Rattle.co_lex.specs.Lexer.{token_at}
 use Rattle.co_lex.specs.Place.{position_after}
 use Rattle.co_lex.specs.Spells.{MayEnd, IsOpen, IsPiece, SpellsFrom, Spells}
 use Rattle.co_lex.specs.Spells as s
-use Rattle.co_tree.specs.declared.declarations.Tree.{Tree}
 use Rattle.co_tree.specs.Piece.{Piece, token, line, node, opens, enter, leave}
 use Rattle.co_tree.specs.Declarations.{sentence_of}
 use Rattle.co_tree.specs.Derives.{kinds, Reads}
@@ -19,7 +18,7 @@ use Rattle.co_print.specs.declared.printer.Gap.{Gap}
 use Rattle.co_print.specs.declared.printer.Gap.TheVariants as gap
 use Rattle.co_print.specs.declared.printer.Printer.{Printer}
 use Rattle.co_print.specs.Spelling.{spelling}
-use Rattle.co_print.specs.Printed.{gap_text, before_line, put_bytes, put_token, put_line, put_all, start, printed}
+use Rattle.co_print.specs.Printed.{gap_text, before_line, put_bytes, put_token, put_line, put_all, start}
 use Rattle.co_print.specs.Laws.{PrintedSpells}
 use Rattle.co_print.proofs.Lexemes.{EndsToken, IsLexeme, lexeme}
 
@@ -150,10 +149,11 @@ spelled (token k ∷ ps) g l at ks is_open e (more k' ks' is h) =
     let rest : kinds ps ≡ ks' = cc in
     subst (λ x. Spelled l at (gap_text g ++ (spelling x ++ rest_text gap.Space ps)) (k' ∷ ks')) (sym same)
     (after_gap g l at (spelling k' ++ rest_text gap.Space ps) (k' ∷ ks') is_open (λ l' at' is_open'.
-        let r = spelled ps gap.Space Begun (position_after at' (spelling k')) ks' tt rest h in
-        (record { kind = k'; span = at' } ∷ r.0,
-         s.piece l' at' (spelling k') (rest_text gap.Space ps) (Some k') Begun r.0 (s.token l' at' (spelling k') (rest_text gap.Space ps) k' is_open' (is (rest_text gap.Space ps) (ends_token ps))) r.1,
-         ap (λ x. k' ∷ x) r.2)))
+    let r = spelled ps gap.Space Begun (position_after at' (spelling k')) ks' tt rest h in (
+      record { kind = k'; span = at' } ∷ r.0,
+      s.piece l' at' (spelling k') (rest_text gap.Space ps) (Some k') Begun r.0 (s.token l' at' (spelling k') (rest_text gap.Space ps) k' is_open' (is (rest_text gap.Space ps) (ends_token ps))) r.1,
+      ap (λ x. k' ∷ x) r.2,
+    )))
 spelled (line ∷ ps) g l at ks is_open e h = spelled ps (before_line g) l at ks is_open e h
 spelled (node p ∷ ps) g l at ks is_open e h = spelled ps g l at ks is_open e h
 spelled (opens ∷ ps) g l at ks is_open e h = spelled ps g l at ks is_open e h
@@ -163,5 +163,6 @@ spelled (leave ∷ ps) g l at ks is_open e h = spelled ps g l at ks is_open e h
 pub printed_spells : PrintedSpells
 printed_spells tree bytes tokens h reads =
     let first : Span = record { line = 1; col = 1 } in
-    let r = spelled (sentence_of tree) gap.Nothing Blank first (kinds_in tokens) tt (reads_kinds (sentence_of tree) tokens reads) (lexemes Blank first bytes tokens h) in
-    (r.0, subst (λ z. Spells z r.0) (sym (put_text start (sentence_of tree))) r.1, r.2)
+    let same = reads_kinds (sentence_of tree) tokens reads in
+    let r = spelled (sentence_of tree) gap.Nothing Blank first (kinds_in tokens) tt same (lexemes Blank first bytes tokens h) in
+    (r.0, subst (λ z. Spells z r.0) (sym (put_text start (sentence_of tree))) r.1, r.2 ∙ sym same)

@@ -1,6 +1,6 @@
 -- Lists whose parts stand with a comma between them, one part after the other.
-use Rattle.std.specs.Prelude.{◌≡◌, ℕ, suc, ◌+◌, ◌<◌, List, [], ◌∷◌, ◌++◌, drop, length, not, Bool, true, false}
-use Rattle.std.proofs.Common.{refl, ap, sym, ◌∙◌, get_or, drop-cons, add-one, arith, subst}
+use Rattle.std.specs.Prelude.{◌≡◌, ℕ, suc, ◌+◌, ◌<◌, List, ◌∷◌, ◌++◌, drop, length, not, Bool, true, false}
+use Rattle.std.proofs.Common.{ap, sym, ◌∙◌, get_or, drop-cons, add-one}
 use Rattle.co_lex.specs.declared.token.Mark.TheVariants as mark
 use Rattle.co_tree.specs.declared.expressions.Expression.{Expression}
 use Rattle.co_tree.specs.Piece.{Piece, m, rule, if_said}

@@ -20,7 +20,7 @@ use Rattle.co_tree.specs.Statements.{condition, for_parentheses, statement, bloc
 use Rattle.co_tree.specs.Declarations.{key_word, member, members}
 use Rattle.co_print.specs.declared.printer.Printer.{Printer}
 use Rattle.co_print.specs.Printed.{put_token, put_line, put_all}
-use Rattle.co_print.proofs.Puts.{put_append, put_rule, put_braces}
+use Rattle.co_print.proofs.Puts.{put_append}
 use Rattle.co_print.proofs.OpeningStatements as opening
 use Rattle.co_print.proofs.OpeningMembers.{sentence_class}
 
@@ -61,4 +61,4 @@ for_step x init c step body body' at s s1 s2 s3 s4 is e1 e2 e3 i4 e4 =
 pub class_step : (x : MemberDeclaration) (key : ClassKey) (kw : Word) (n n' : List ℕ) (ds ds' : List MemberDeclaration) (at : Span) (s s1 s2 s3 s4 s5 s6 s7 : Printer) → x ≡ member_of.Class key n ds at → s1 ≡ put_line s → kw ≡ key_word key → s2 ≡ put_token s1 (kind.Word kw) → n' ≡ n → s3 ≡ put_token s2 (kind.Name n') →
     s4 ≡ put_token s3 (kind.Mark mark.OpenBrace) → ds' ≡ ds → s5 ≡ put_all s4 (members ds') → s6 ≡ put_token s5 (kind.Mark mark.CloseBrace) → s7 ≡ put_token s6 (kind.Mark mark.Semicolon) → s7 ≡ put_all s (member x)
 class_step x key kw n n' ds ds' at s s1 s2 s3 s4 s5 s6 s7 is e1 ik e2 i3 e3 e4 i5 e5 e6 e7 =
-    let whole : put_all s (member (member_of.Class key n ds at)) ≡ put_token (put_token (put_all (put_token (put_token (put_token (put_line s) (kind.Word (key_word key))) (kind.Name n)) (kind.Mark mark.OpenBrace)) (members ds)) (kind.Mark mark.CloseBrace)) (kind.Mark mark.Semicolon) = ap (put_all s) (sentence_class key n ds at) ∙ simp (put_append, put_braces) in cc
+    let whole : put_all s (member (member_of.Class key n ds at)) ≡ put_token (put_token (put_all (put_token (put_token (put_token (put_line s) (kind.Word (key_word key))) (kind.Name n)) (kind.Mark mark.OpenBrace)) (members ds)) (kind.Mark mark.CloseBrace)) (kind.Mark mark.Semicolon) = ap (put_all s) (sentence_class key n ds at) ∙ simp put_append in cc

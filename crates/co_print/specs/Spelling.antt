@@ -1,5 +1,5 @@
 -- How the canonical text spells each token.
-use Rattle.std.specs.Prelude.{ℕ, List, [], ◌∷◌, ◌++◌, Bool, ◌||◌, ◌==◌, if◌then◌else◌, ℤ, codes}
+use Rattle.std.specs.Prelude.{ℕ, List, [], ◌∷◌, ◌++◌, ◌||◌, ◌==◌, if◌then◌else◌, codes}
 use Rattle.std.specs.Fmt.{signed_decimal}
 use Rattle.co_base.specs.declared.kinds.Num.{Num}
 use Rattle.co_base.specs.declared.kinds.Num.TheVariants as num

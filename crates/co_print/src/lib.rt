@@ -9,6 +9,8 @@ mod print;
 mod printer;
 mod spelling;
 mod statements;
+#[cfg(test)]
+mod tests;
 mod types;
 
 pub use laws::printed_spells;

@@ -1,6 +1,5 @@
 -- The grammar of declarations read aloud, one case for each alternative of each rule.
-use Rattle.std.specs.Prelude.{ℕ, List, [], ◌∷◌, ◌++◌, Option, None, Some}
-use Rattle.co_lex.specs.declared.token.TokenKind.{TokenKind}
+use Rattle.std.specs.Prelude.{List, [], ◌∷◌, ◌++◌, Option, None, Some}
 use Rattle.co_lex.specs.declared.token.TokenKind.TheVariants as kind
 use Rattle.co_lex.specs.declared.token.Word.{Word}
 use Rattle.co_lex.specs.declared.token.Word.TheVariants as word
@@ -31,7 +30,7 @@ use Rattle.co_tree.specs.declared.declarations.Declaration.{Declaration}
 use Rattle.co_tree.specs.declared.declarations.Declaration.TheVariants as declaration
 use Rattle.co_tree.specs.declared.declarations.Tree.{Tree}
 use Rattle.co_tree.specs.declared.statements.Block.{Block}
-use Rattle.co_tree.specs.Piece.{Piece, token, line, node, opens, w, m, name, rule, in_parentheses, in_braces, if_said}
+use Rattle.co_tree.specs.Piece.{Piece, token, line, node, w, m, name, in_parentheses, in_braces, if_said}
 use Rattle.co_tree.specs.Types.{type_id}
 use Rattle.co_tree.specs.Sentence.{arguments, in_brackets}
 use Rattle.co_tree.specs.Statements.{variable, parameter, block}

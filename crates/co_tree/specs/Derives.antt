@@ -1,5 +1,5 @@
 -- Which tokens a tree derives, with the places of its nodes, and how deep it nests.
-use Rattle.std.specs.Prelude.{◌≡◌, ℕ, suc, ◌+◌, List, [], ◌∷◌, ◌++◌, sum, nat_le, Bool, true, false, if◌then◌else◌, Option, None, Some}
+use Rattle.std.specs.Prelude.{◌≡◌, ℕ, suc, List, [], ◌∷◌, ◌++◌, sum, nat_le, Bool, true, false, if◌then◌else◌, Option, None, Some}
 use Rattle.std.specs.Option.{option_map}
 use Rattle.co_base.specs.declared.span.Span.{Span}
 use Rattle.co_lex.specs.declared.token.Token.{Token}

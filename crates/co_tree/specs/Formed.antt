@@ -1,18 +1,17 @@
 -- What the grammar and its side sentences ask of a tree beyond its shape: which expressions may be the operands of which,
 -- what names a class, where `auto` stands, and to what a token belongs that could belong to two.
-use Rattle.std.specs.Prelude.{◌≡◌, ◌≢◌, ℕ, suc, ◌<◌, ◌≤◌, List, [], ◌∷◌, ◌⊎◌, Bool, true, false, ◌||◌, Option, None, Some, IsTrue, IsFalse, Contains, codes}
+use Rattle.std.specs.Prelude.{◌≡◌, ◌≢◌, ℕ, ◌<◌, ◌≤◌, List, [], ◌∷◌, ◌⊎◌, Bool, true, false, Option, None, Some, IsTrue, IsFalse, Contains, codes}
 use Rattle.std.specs.List.{AllByRecursion}
 use Rattle.co_tree.specs.declared.types.Path.{Path}
 use Rattle.co_tree.specs.declared.types.SimpleType.{SimpleType}
 use Rattle.co_tree.specs.declared.types.SimpleTypeKind.{SimpleTypeKind}
 use Rattle.co_tree.specs.declared.types.SimpleTypeKind.TheVariants as simple
-use Rattle.co_tree.specs.declared.types.Reference.{Reference}
 use Rattle.co_tree.specs.declared.types.Reference.TheVariants as reference
 use Rattle.co_tree.specs.declared.types.TypeId.{TypeId}
 use Rattle.co_tree.specs.declared.expressions.BinaryOperator.{BinaryOperator}
 use Rattle.co_tree.specs.declared.expressions.BinaryOperator.TheVariants as binary
 use Rattle.co_tree.specs.declared.expressions.Brackets.{Brackets}
-use Rattle.co_tree.specs.declared.expressions.Brackets.TheVariants.{Parentheses, Braces}
+use Rattle.co_tree.specs.declared.expressions.Brackets.TheVariants.{Parentheses}
 use Rattle.co_tree.specs.declared.expressions.Expression.{Expression, Row_of-Expression, end_of-Expression, more_of-Expression}
 use Rattle.co_tree.specs.declared.expressions.Expression.TheVariants as expr
 

@@ -1,5 +1,5 @@
 -- What the grammar and its side sentences ask of statements, declarations and a whole tree beyond their shape.
-use Rattle.std.specs.Prelude.{◌≡◌, ◌≢◌, ℕ, List, [], ◌∷◌, ◌⊎◌, Bool, true, false, Option, None, Some, IsTrue, IsFalse}
+use Rattle.std.specs.Prelude.{◌≡◌, ℕ, List, [], ◌∷◌, Bool, true, false, Option, None, Some, IsFalse}
 use Rattle.std.specs.List.{AllByRecursion}
 use Rattle.co_lex.specs.declared.token.Token.{Token}
 use Rattle.co_tree.specs.declared.declarations.Parameter.{Parameter}

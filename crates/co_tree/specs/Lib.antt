@@ -7,3 +7,4 @@ pub mod Derives
 pub mod Formed
 pub mod FormedTree
 pub mod Strip
+pub mod Laws

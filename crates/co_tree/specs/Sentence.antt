@@ -1,11 +1,9 @@
 -- The grammar read aloud: the sentence of a tree, one case for each alternative of each rule.
-use Rattle.std.specs.Prelude.{ℕ, List, [], ◌∷◌, ◌++◌, Bool, true, false, Option, None, Some, codes}
-use Rattle.co_base.specs.declared.span.Span.{Span}
+use Rattle.std.specs.Prelude.{ℕ, List, [], ◌∷◌, ◌++◌, Bool, true, false, codes}
 use Rattle.co_lex.specs.declared.token.TokenKind.TheVariants as kind
 use Rattle.co_lex.specs.declared.token.Word.TheVariants as word
 use Rattle.co_lex.specs.declared.token.Mark.{Mark}
 use Rattle.co_lex.specs.declared.token.Mark.TheVariants as mark
-use Rattle.co_tree.specs.declared.types.TypeId.{TypeId}
 use Rattle.co_tree.specs.declared.expressions.AssignmentOperator.{AssignmentOperator}
 use Rattle.co_tree.specs.declared.expressions.AssignmentOperator.TheVariants as assign
 use Rattle.co_tree.specs.declared.expressions.BinaryOperator.{BinaryOperator}
@@ -26,7 +24,7 @@ use Rattle.co_tree.specs.declared.expressions.CorunFunction.{CorunFunction}
 use Rattle.co_tree.specs.declared.expressions.CorunFunction.TheVariants as corun_fn
 use Rattle.co_tree.specs.declared.expressions.Expression.{Expression, Row_of-Expression, end_of-Expression, more_of-Expression}
 use Rattle.co_tree.specs.declared.expressions.Expression.TheVariants as expr
-use Rattle.co_tree.specs.Piece.{Piece, token, line, node, opens, enter, leave, w, m, name, rule, in_parentheses, in_braces, if_said, standard, of_corun}
+use Rattle.co_tree.specs.Piece.{Piece, token, node, opens, w, m, name, rule, in_parentheses, in_braces, if_said, standard, of_corun}
 use Rattle.co_tree.specs.Types.{path, handle, simple_type, stars, type_id}
 
 -- ---- operators

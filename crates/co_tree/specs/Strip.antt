@@ -1,5 +1,5 @@
 -- A tree with its places set aside: two trees are one but for their spans exactly where these are equal.
-use Rattle.std.specs.Prelude.{ℕ, List, [], ◌∷◌, map, Option, None, Some}
+use Rattle.std.specs.Prelude.{List, [], ◌∷◌, map, Option}
 use Rattle.std.specs.Option.{option_map}
 use Rattle.co_base.specs.declared.span.Span.{Span}
 use Rattle.co_tree.specs.declared.types.Path.{Path}
@@ -163,15 +163,15 @@ strip_alias a = record { name = a.name; of = strip_type a.of; span = first_place
 
 abbrev pub strip_function : Function → Function
 strip_function f = record {
-    specifiers = f.specifiers;
-    result = strip_type f.result;
-    name = f.name;
-    parameters = map strip_parameter f.parameters;
-    is_const = f.is_const;
-    is_noexcept = f.is_noexcept;
-    body = option_map strip_block f.body;
-    span = first_place;
-  }
+  specifiers = f.specifiers;
+  result = strip_type f.result;
+  name = f.name;
+  parameters = map strip_parameter f.parameters;
+  is_const = f.is_const;
+  is_noexcept = f.is_noexcept;
+  body = option_map strip_block f.body;
+  span = first_place;
+}
 
 abbrev pub strip_member_initializer : MemberInitializer → MemberInitializer
 strip_member_initializer i = record { name = i.name; brackets = i.brackets; arguments = strip_all i.arguments; span = first_place }
@@ -183,13 +183,13 @@ strip_constructor_body constructor_body.Delete = constructor_body.Delete
 
 abbrev pub strip_constructor : Constructor → Constructor
 strip_constructor c = record {
-    is_explicit = c.is_explicit;
-    name = c.name;
-    parameters = map strip_parameter c.parameters;
-    is_noexcept = c.is_noexcept;
-    body = strip_constructor_body c.body;
-    span = first_place;
-  }
+  is_explicit = c.is_explicit;
+  name = c.name;
+  parameters = map strip_parameter c.parameters;
+  is_noexcept = c.is_noexcept;
+  body = strip_constructor_body c.body;
+  span = first_place;
+}
 
 abbrev pub strip_destructor_body : DestructorBody → DestructorBody
 strip_destructor_body (destructor_body.Block b) = destructor_body.Block (strip_block b)

@@ -11,7 +11,7 @@ use Rattle.co_tree.specs.declared.types.SimpleTypeKind.TheVariants as simple
 use Rattle.co_tree.specs.declared.types.Reference.{Reference}
 use Rattle.co_tree.specs.declared.types.Reference.TheVariants as reference
 use Rattle.co_tree.specs.declared.types.TypeId.{TypeId}
-use Rattle.co_tree.specs.Piece.{Piece, node, opens, enter, leave, w, m, name, rule, if_said, standard}
+use Rattle.co_tree.specs.Piece.{Piece, node, opens, w, m, name, rule, if_said, standard}
 
 -- { "::" NAME }
 abbrev pub names_after : List (List ℕ) → List Piece

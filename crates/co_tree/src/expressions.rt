@@ -113,12 +113,7 @@ pub enum Expression {
     Rethrow(Span),
     /// `throw e` [expr.throw]
     Throw(Boxed<Expression>, Span),
-    Assignment(
-        Boxed<Expression>,
-        AssignmentOperator,
-        Boxed<Expression>,
-        Span,
-    ),
+    Assignment(Boxed<Expression>, AssignmentOperator, Boxed<Expression>, Span),
     /// `a ? b : c` [expr.cond]
     Conditional(Boxed<Expression>, Boxed<Expression>, Boxed<Expression>, Span),
     Binary(Boxed<Expression>, BinaryOperator, Boxed<Expression>, Span),

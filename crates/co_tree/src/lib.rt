@@ -3,6 +3,7 @@
 
 mod declarations;
 mod expressions;
+mod laws;
 mod statements;
 mod types;
 
@@ -15,5 +16,6 @@ pub use expressions::{
     AssignmentOperator, BinaryOperator, Brackets, CorunFunction, Expression, HandleFunction,
     MemberOperator, StandardFunction, StepOperator, UnaryOperator,
 };
+pub use laws::reads_tokens;
 pub use statements::{Block, Caught, ForInit, Handler, Initializer, Returned, Statement, Variable};
 pub use types::{Path, Reference, SimpleType, SimpleTypeKind, TypeId};

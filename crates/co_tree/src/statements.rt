@@ -84,13 +84,7 @@ pub enum Statement {
     IfElse(Expression, Boxed<Statement>, Boxed<Statement>, Span),
     While(Expression, Boxed<Statement>, Span),
     /// The beginning, the condition, the step and the body [stmt.for].
-    For(
-        ForInit,
-        Option<Expression>,
-        Option<Expression>,
-        Boxed<Statement>,
-        Span,
-    ),
+    For(ForInit, Option<Expression>, Option<Expression>, Boxed<Statement>, Span),
     Break(Span),
     Continue(Span),
     Return(Returned, Span),

@@ -69,4 +69,3 @@ print_expression-returns-in_ok-print_in_parentheses-in-OperatorNew t c =
 pub print_expression-returns-in_ok-print_in_parentheses-in-OperatorDelete : goal.print_expression-returns-in_ok-print_in_parentheses-in-OperatorDelete
 print_expression-returns-in_ok-print_in_parentheses-in-OperatorDelete t c =
     step.operator_delete_step _ _ _ _ _ _ _ _ _ c.in-OperatorDelete.is c.in_ok-mark-in-OperatorDelete.ensures c.in_ok-word-in-OperatorDelete.ensures c.in_ok-word-in-OperatorDelete-2.ensures c.as_slice-in-OperatorDelete.ensures c.in_ok-print_in_parentheses-in-OperatorDelete.ensures
-
