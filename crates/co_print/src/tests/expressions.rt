@@ -9,99 +9,127 @@ use sqlite_items::Items;
 use std::alloc::Global;
 use std::test::Fail;
 
-fn with_operators(alloc: Global) -> Result<Items<Expression>, NoMemory> {
-    let mut es = Items::new(alloc);
-    es.push(Expression::Yield(boxed(alloc, x(alloc)?)?, AT))?;
-    es.push(Expression::Rethrow(AT))?;
-    es.push(Expression::Throw(boxed(alloc, x(alloc)?)?, AT))?;
-    es.push(Expression::Assignment(
-        boxed(alloc, x(alloc)?)?,
-        AssignmentOperator::Shr,
-        boxed(alloc, number(1))?,
-        AT,
-    ))?;
-    es.push(Expression::Conditional(
-        boxed(alloc, x(alloc)?)?,
-        boxed(alloc, number(1))?,
-        boxed(alloc, number(2))?,
-        AT,
-    ))?;
-    let sum = Expression::Binary(
-        boxed(alloc, x(alloc)?)?,
-        BinaryOperator::Add,
-        boxed(alloc, number(1))?,
-        AT,
-    );
-    let sum = Expression::Parenthesized(boxed(alloc, sum)?, AT);
-    es.push(Expression::Binary(
-        boxed(alloc, sum)?,
-        BinaryOperator::Mul,
-        boxed(alloc, x(alloc)?)?,
-        AT,
-    ))?;
-    es.push(Expression::Unary(UnaryOperator::Await, boxed(alloc, x(alloc)?)?, AT))?;
-    es.push(Expression::New(true, base(SimpleTypeKind::Class(path(alloc, b"T")?)), 2, AT))?;
-    es.push(Expression::NewWith(
-        false,
-        base(SimpleTypeKind::Size),
-        0,
-        Brackets::Braces,
-        two(alloc)?,
-        AT,
-    ))?;
-    es.push(Expression::Delete(false, boxed(alloc, x(alloc)?)?, AT))?;
-    es.push(Expression::Member(
-        boxed(alloc, x(alloc)?)?,
-        MemberOperator::Arrow,
-        text(alloc, b"y")?,
-        AT,
-    ))?;
-    es.push(Expression::Call(boxed(alloc, x(alloc)?)?, two(alloc)?, AT))?;
-    es.push(Expression::Step(boxed(alloc, x(alloc)?)?, StepOperator::Decrement, AT))?;
-    Ok(es)
+fn add(all: &mut Items<Statement>, e: Expression) -> Result<(), NoMemory> {
+    all.push(Statement::Expression(e, AT))?;
+    Ok(())
 }
 
-fn without_operators(alloc: Global) -> Result<Items<Expression>, NoMemory> {
-    let mut es = Items::new(alloc);
-    es.push(Expression::Number(Num::Long, 2147483648, AT))?;
-    es.push(Expression::Number(Num::Size, 0, AT))?;
-    es.push(Expression::Bool(true, AT))?;
-    es.push(Expression::Nullptr(AT))?;
-    es.push(Expression::This(AT))?;
-    es.push(Expression::Construction(
-        base(SimpleTypeKind::Atomic(AtomicKind::VoidPointer)),
-        Brackets::Parentheses,
-        Items::new(alloc),
-    ))?;
-    es.push(Expression::Text(text(alloc, b"a\"\\")?, AT))?;
-    es.push(Expression::StaticCast(plain(SimpleTypeKind::Long), boxed(alloc, x(alloc)?)?, AT))?;
-    es.push(Expression::OperatorNew(two(alloc)?, AT))?;
-    es.push(Expression::OperatorDelete(two(alloc)?, AT))?;
-    es.push(Expression::HandleFunction(Some(path(alloc, b"P")?), HandleFunction::FromPromise, AT))?;
-    es.push(Expression::StandardFunction(StandardFunction::Move, AT))?;
-    es.push(Expression::CorunFunction(CorunFunction::Print, AT))?;
-    Ok(es)
+fn add_loose(alloc: Global, all: &mut Items<Statement>) -> Result<(), NoMemory> {
+    add(all, Expression::Yield(boxed(alloc, x(alloc)?)?, AT))?;
+    add(all, Expression::Rethrow(AT))?;
+    add(all, Expression::Throw(boxed(alloc, x(alloc)?)?, AT))
 }
 
-fn as_statements(
-    alloc: Global,
-    expressions: Items<Expression>,
-) -> Result<Items<Statement>, NoMemory> {
-    let mut left = expressions;
-    let mut statements = Items::new(alloc);
-    while let Some(e) = left.pop() {
-        statements.push(Statement::Expression(e, AT))?;
-    }
-    Ok(statements)
+fn add_assignment(alloc: Global, all: &mut Items<Statement>) -> Result<(), NoMemory> {
+    let a = boxed(alloc, x(alloc)?)?;
+    let b = boxed(alloc, number(1))?;
+    add(
+        all,
+        Expression::Assignment(a, AssignmentOperator::Shr, b, AT),
+    )
+}
+
+fn add_conditional(alloc: Global, all: &mut Items<Statement>) -> Result<(), NoMemory> {
+    let a = boxed(alloc, x(alloc)?)?;
+    let b = boxed(alloc, number(1))?;
+    let c = boxed(alloc, number(2))?;
+    add(all, Expression::Conditional(a, b, c, AT))
+}
+
+fn add_product(alloc: Global, all: &mut Items<Statement>) -> Result<(), NoMemory> {
+    let a = boxed(alloc, x(alloc)?)?;
+    let b = boxed(alloc, number(1))?;
+    let sum = boxed(alloc, Expression::Binary(a, BinaryOperator::Add, b, AT))?;
+    let sum = boxed(alloc, Expression::Parenthesized(sum, AT))?;
+    let c = boxed(alloc, x(alloc)?)?;
+    add(all, Expression::Binary(sum, BinaryOperator::Mul, c, AT))
+}
+
+fn add_unary(alloc: Global, all: &mut Items<Statement>) -> Result<(), NoMemory> {
+    let awaited = boxed(alloc, x(alloc)?)?;
+    add(all, Expression::Unary(UnaryOperator::Await, awaited, AT))?;
+    let class = base(SimpleTypeKind::Class(path(alloc, b"T")?));
+    add(all, Expression::New(true, class, 2, AT))?;
+    let size = base(SimpleTypeKind::Size);
+    let made = Expression::NewWith(false, size, 0, Brackets::Braces, two(alloc)?, AT);
+    add(all, made)?;
+    add(all, Expression::Delete(false, boxed(alloc, x(alloc)?)?, AT))
+}
+
+fn add_postfix(alloc: Global, all: &mut Items<Statement>) -> Result<(), NoMemory> {
+    let a = boxed(alloc, x(alloc)?)?;
+    let member = Expression::Member(a, MemberOperator::Arrow, text(alloc, b"y")?, AT);
+    add(all, member)?;
+    let function = boxed(alloc, x(alloc)?)?;
+    add(all, Expression::Call(function, two(alloc)?, AT))?;
+    let b = boxed(alloc, x(alloc)?)?;
+    add(all, Expression::Step(b, StepOperator::Decrement, AT))
+}
+
+fn add_literals(all: &mut Items<Statement>) -> Result<(), NoMemory> {
+    add(all, Expression::Number(Num::Long, 2147483648, AT))?;
+    add(all, Expression::Number(Num::Size, 0, AT))?;
+    add(all, Expression::Bool(true, AT))?;
+    add(all, Expression::Nullptr(AT))?;
+    add(all, Expression::This(AT))
+}
+
+fn add_typed(alloc: Global, all: &mut Items<Statement>) -> Result<(), NoMemory> {
+    let atomic = base(SimpleTypeKind::Atomic(AtomicKind::VoidPointer));
+    let none = Items::new(alloc);
+    add(
+        all,
+        Expression::Construction(atomic, Brackets::Parentheses, none),
+    )?;
+    add(all, Expression::Text(text(alloc, b"a\"\\")?, AT))?;
+    let e = boxed(alloc, x(alloc)?)?;
+    add(
+        all,
+        Expression::StaticCast(plain(SimpleTypeKind::Long), e, AT),
+    )
+}
+
+fn add_functions(alloc: Global, all: &mut Items<Statement>) -> Result<(), NoMemory> {
+    add(all, Expression::OperatorNew(two(alloc)?, AT))?;
+    add(all, Expression::OperatorDelete(two(alloc)?, AT))?;
+    let promise = Some(path(alloc, b"P")?);
+    add(
+        all,
+        Expression::HandleFunction(promise, HandleFunction::FromPromise, AT),
+    )?;
+    add(
+        all,
+        Expression::StandardFunction(StandardFunction::Move, AT),
+    )?;
+    add(all, Expression::CorunFunction(CorunFunction::Print, AT))
+}
+
+fn with_operators(alloc: Global) -> Result<Items<Statement>, NoMemory> {
+    let mut all = Items::new(alloc);
+    add_loose(alloc, &mut all)?;
+    add_assignment(alloc, &mut all)?;
+    add_conditional(alloc, &mut all)?;
+    add_product(alloc, &mut all)?;
+    add_unary(alloc, &mut all)?;
+    add_postfix(alloc, &mut all)?;
+    Ok(all)
+}
+
+fn without_operators(alloc: Global) -> Result<Items<Statement>, NoMemory> {
+    let mut all = Items::new(alloc);
+    add_literals(&mut all)?;
+    add_typed(alloc, &mut all)?;
+    add_functions(alloc, &mut all)?;
+    Ok(all)
 }
 
 #[test]
 fn operators_stand_between_their_operands(rt: HostRuntime) -> Result<(), Fail> {
     let alloc = rt.alloc();
-    let tree = main_of(alloc, as_statements(alloc, with_operators(alloc)?)?)?;
+    let tree = main_of(alloc, with_operators(alloc)?)?;
     let printed = print_tree(alloc, &tree)?;
     let wanted =
-        b"int main ( ) {\nx -- ;\nx ( x , 2 ) ;\nx -> y ;\ndelete x ;\nnew std :: size_t { x , 2 } ;\n:: new T * * ;\nco_await x ;\n( x + 1 ) * x ;\nx ? 1 : 2 ;\nx >>= 1 ;\nthrow x ;\nthrow ;\nco_yield x ; }\n";
+        b"int main ( ) {\nco_yield x ;\nthrow ;\nthrow x ;\nx >>= 1 ;\nx ? 1 : 2 ;\n( x + 1 ) * x ;\nco_await x ;\n:: new T * * ;\nnew std :: size_t { x , 2 } ;\ndelete x ;\nx -> y ;\nx ( x , 2 ) ;\nx -- ; }\n";
     assert!(rt; printed.as_slice() == wanted.as_slice());
     Ok(())
 }
@@ -109,10 +137,10 @@ fn operators_stand_between_their_operands(rt: HostRuntime) -> Result<(), Fail> {
 #[test]
 fn primary_expressions_are_spelled(rt: HostRuntime) -> Result<(), Fail> {
     let alloc = rt.alloc();
-    let tree = main_of(alloc, as_statements(alloc, without_operators(alloc)?)?)?;
+    let tree = main_of(alloc, without_operators(alloc)?)?;
     let printed = print_tree(alloc, &tree)?;
     let wanted =
-        b"int main ( ) {\ncorun :: print ;\nstd :: move ;\nstd :: coroutine_handle < P > :: from_promise ;\n:: operator delete ( x , 2 ) ;\n:: operator new ( x , 2 ) ;\nstatic_cast < long > ( x ) ;\ncorun :: text ( \"a\\\"\\\\\" ) ;\nstd :: atomic < void * > ( ) ;\nthis ;\nnullptr ;\ntrue ;\n0UL ;\n2147483648L ; }\n";
+        b"int main ( ) {\n2147483648L ;\n0UL ;\ntrue ;\nnullptr ;\nthis ;\nstd :: atomic < void * > ( ) ;\ncorun :: text ( \"a\\\"\\\\\" ) ;\nstatic_cast < long > ( x ) ;\n:: operator new ( x , 2 ) ;\n:: operator delete ( x , 2 ) ;\nstd :: coroutine_handle < P > :: from_promise ;\nstd :: move ;\ncorun :: print ; }\n";
     assert!(rt; printed.as_slice() == wanted.as_slice());
     Ok(())
 }
