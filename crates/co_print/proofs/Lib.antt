@@ -1,0 +1,9 @@
+pub mod Puts
+pub mod Opening
+pub mod Separated
+pub mod Steps
+pub mod OpeningStatements
+pub mod OpeningMembers
+pub mod StepsStatements
+pub mod Lexemes
+pub mod Respelled

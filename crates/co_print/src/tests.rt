@@ -1,0 +1,4 @@
+mod builders;
+mod declarations;
+mod expressions;
+mod statements;
