@@ -286,10 +286,9 @@ parted [] (s ∷ seen) (b ∷ before) rest few e =
     let none : length seen ≡ 0 = omega (arith, few) in
     let tails = ap tail_of e in
     let counts : length (before ++ rest) ≡ 0 = sym (ap (length {A = Event}) tails) ∙ none in
-    let first = ap (head_of s) e in
     let one = nothing-before before rest counts in
     let two = empty seen none in
-    inr (cc (first, one, two))
+    inr (cc (one, two))
 parted (x ∷ xs) seen (b ∷ before) rest few e = go (parted xs seen before rest few (ap tail_of e)) (ap (head_of x) e)
   where
     go : ((left : List Event) × (xs ≡ before ++ left)) ⊎ (before ≡ xs ++ seen) → x ≡ b → ((left : List Event) × (x ∷ xs ≡ b ∷ before ++ left)) ⊎ (b ∷ before ≡ x ∷ (xs ++ seen))
