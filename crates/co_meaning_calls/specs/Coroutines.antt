@@ -442,7 +442,7 @@ await_resume plan into l = goes (Evaluate plan.resume into) (reached_at plan.poi
 -- whether `await_suspend` is a call; that of the library's awaiters is none
 abbrev pub is_call : CoreExpr → Bool
 is_call (expr.Call' f n args at) = true
-is_call (expr.Load' n (more_of-CoreExpr (expr.Call' f m args at) end_of-CoreExpr) where_) = true
+is_call (expr.Load' n (more_of-CoreExpr (expr.Call' f m args at) end_of-CoreExpr) place) = true
 is_call e = false
 
 abbrev pub suspended_at : ℕ → ℕ → Continuation → Condition
