@@ -157,7 +157,8 @@ abbrev pub constructor_left : Place → ℕ → Going → Local → Option Turne
 constructor_left p built (Throwing v) l = ends (fields_end p built) (Goes (Throwing v)) l
 constructor_left p built going l = leaves going l
 
--- What is done where a frame is left before it is done. The frame is taken away, and most do nothing more.
+-- What is done where a frame is left before it is done. The frame is taken away, and most do nothing more. What is alive in it ends,
+-- also where a destructor is left.
 abbrev pub leave : Frame → Going → Local → Option Turned
 leave (TempMade slot x) going l = abandon x.object (Goes going) l
 leave (ArgumentMade x) going l = abandon x (Goes going) l
@@ -171,6 +172,9 @@ leave (Answers n serial a own at) going l = answer_left n serial a own going at 
 leave (Building p built rest) going l = ends (fields_end p built) (Goes going) l
 leave (Constructing p class built rest body) going l = constructor_left p built going l
 leave (FieldsEnd p class) going l = ends (fields_end p (all_fields p l)) (Goes going) l
+leave (Ends rest outcome) going l = ends rest (Goes going) l
+leave (ObjectEnds x) going l = goes (Dies x) (pushed (Ends [] (Goes going)) l)
+leave (PartEnds p) going l = leaves going (with_store (end_part (classes l) p (store l)) l)
 leave (Full ts) going l = ends (temporaries_end ts) (Goes going) l
 leave (Scope alive rest) going l = ends (endings alive) (Goes going) l
 leave (LoopBody e step body) going l = loop_left e step body going l
