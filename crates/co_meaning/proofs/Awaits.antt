@@ -1,6 +1,7 @@
 -- Runs of coroutines with awaiters of their own: each answer of `await_suspend`, exceptions, transfer, and several agents.
+use Rattle.std.specs.Prelude.{map}
 use Rattle.std.proofs.Common.{◌≡◌, ℕ, List, [], ◌∷◌, ◌++◌, Some, None, refl}
-use Rattle.std.specs.Prelude.{ℤ, pos, Option, replicate}
+use Rattle.std.specs.Prelude.{pos, replicate}
 use Rattle.co_base.specs.declared.kinds.CatchOf.TheVariants as catch
 use Rattle.co_base.specs.declared.kinds.Num.TheVariants as num
 use Rattle.co_base.specs.declared.kinds.Print.TheVariants as print
@@ -58,7 +59,7 @@ abbrev own_awaits : Answer → CoreStmt
 own_awaits a = stmt.Full (own_await a 3) here
 
 abbrev of_awaiter : List SlotInfo → CoType → CoreStmt → CoreFunc
-of_awaiter more result body = function (slot 0 ∷ (Rattle.std.specs.Prelude.map (λ s. slot 1) more)) result (param (refers (of_class 2)) ∷ more) body
+of_awaiter more result body = function (slot 0 ∷ (map (λ s. slot 1) more)) result (param (refers (of_class 2)) ∷ more) body
 
 abbrev returns : CoreExpr → CoreStmt
 returns e = stmt.Return (Some (init.Value e)) here

@@ -1,6 +1,10 @@
 -- Runs of programs with storage of their own, class parameters, conditional temporaries, atomics and undefined acts.
+use Rattle.std.specs.Prelude.{map, negsuc}
+use Rattle.co_core_tree.specs.declared.kinds.AtomicOp.{AtomicOp}
+use Rattle.co_meaning_data.specs.declared.values.Standing.TheVariants as standing
+use Rattle.co_base.specs.declared.kinds.Thrown.TheVariants as thrown
 use Rattle.std.proofs.Common.{◌≡◌, ℕ, suc, List, [], ◌∷◌, Bool, true, false, Some, refl}
-use Rattle.std.specs.Prelude.{ℤ, pos, Option, replicate}
+use Rattle.std.specs.Prelude.{pos}
 use Rattle.co_base.specs.declared.kinds.AtomicKind.TheVariants as atomic_kind
 use Rattle.co_base.specs.declared.kinds.Num.TheVariants as num
 use Rattle.co_base.specs.declared.kinds.Op.TheVariants as op
@@ -47,7 +51,7 @@ with_t more main =
     (main ∷ constructor 0 1 (init.Value (load (variable 1)) ∷ []) (param (type.Num num.Long) ∷ []) nothing ∷ ends_by 0 (prints (load (member this 0))) ∷ more)
 
 abbrev main_of : List CoType → CoreStmt → CoreFunc
-main_of locals body = function [] (type.Num num.Int) (Rattle.std.specs.Prelude.map local locals) body
+main_of locals body = function [] (type.Num num.Int) (map local locals) body
 
 -- ---- `new` and `delete` [expr.new] [expr.delete]
 
@@ -84,7 +88,7 @@ throwing = function [] (type.Num num.Long) [] (stmt.Full (expr.Throw' (type.Num 
 abbrev throws_in_new : Program
 throws_in_new = with_t (throwing ∷ []) (main_of (pointer_to (of_class 0) ∷ []) (two (declares 0 (init.Value (new_t take_plan.Global false (made_by 1 (call 3))))) return_zero))
 
-threw_in_new : (alone throws_in_new 200).shared.store.blocks ≡ record { words = 1; released = true; standing = Rattle.co_meaning_data.specs.declared.values.Standing.TheVariants.Nothing } ∷ []
+threw_in_new : (alone throws_in_new 200).shared.store.blocks ≡ record { words = 1; released = true; standing = standing.Nothing } ∷ []
 threw_in_new = refl
 
 -- ---- class parameters [expr.call]
@@ -106,7 +110,7 @@ called_with_two : (alone (calls_with_two (long 2)) 300).events ≡ event.Print 0
 called_with_two = refl
 
 -- the second argument throws, and the first one's object dies
-call_given_up : (alone (calls_with_two (call 4)) 300).events ≡ event.Print 0 (print.Num (pos 1)) ∷ event.Uncaught 0 (Rattle.co_base.specs.declared.kinds.Thrown.TheVariants.Int (pos 5)) ∷ []
+call_given_up : (alone (calls_with_two (call 4)) 300).events ≡ event.Print 0 (print.Num (pos 1)) ∷ event.Uncaught 0 (thrown.Int (pos 5)) ∷ []
 call_given_up = refl
 
 -- ---- temporaries of conditional operands [class.temporary]
@@ -114,7 +118,7 @@ call_given_up = refl
 -- (b ? T(1) : T(2)).v as a statement: only the temporary of the chosen branch is made and dies
 abbrev picks_one : ℕ → Program
 picks_one b =
-    let branch : ℕ → CoreExpr = λ n. load (member (temp n (made_by 1 (long (Rattle.std.specs.Prelude.suc n)))) 0) in
+    let branch : ℕ → CoreExpr = λ n. load (member (temp n (made_by 1 (long (suc n)))) 0) in
     let main : CoreFunc = record (main_of [] (two (prints (expr.Pick' _ (more_of-CoreExpr (expr.Const num.Bool (pos b) here) end_of-CoreExpr) _ (more_of-CoreExpr (branch 0) end_of-CoreExpr) _ (more_of-CoreExpr (branch 1) end_of-CoreExpr) here)) return_zero))
     { slots = record { of = of_class 0; kind = kind.Temp } ∷ record { of = of_class 0; kind = kind.Temp } ∷ [] } in
     with_t [] main
@@ -127,7 +131,7 @@ picked_second = refl
 
 -- ---- atomics [atomics.types.operations]
 
-abbrev on_atomic : Rattle.co_core_tree.specs.declared.kinds.AtomicOp.AtomicOp → CoreExpr → CoreExpr
+abbrev on_atomic : AtomicOp → CoreExpr → CoreExpr
 on_atomic o v = expr.Atomic' o (tt ∷ tt ∷ []) (more_of-CoreExpr (expr.Global 0 here) (more_of-CoreExpr v end_of-CoreExpr)) here
 
 abbrev int : ℕ → CoreExpr
@@ -144,7 +148,7 @@ on_atomics =
     (prints (as_long (load (variable 0)))) return_zero) ∷ []) in
     record p { unit = record p.unit { globals = record { of = type.Atomic atomic_kind.Int; value = pos 2147483647 } ∷ [] } }
 
-atomics_wrap : (alone on_atomics 200).events ≡ event.Print 0 (print.Num (pos 2147483647)) ∷ event.Print 0 (print.Num (pos 0)) ∷ event.Print 0 (print.Num (Rattle.std.specs.Prelude.negsuc 2147483647)) ∷ []
+atomics_wrap : (alone on_atomics 200).events ≡ event.Print 0 (print.Num (pos 2147483647)) ∷ event.Print 0 (print.Num (pos 0)) ∷ event.Print 0 (print.Num (negsuc 2147483647)) ∷ []
 atomics_wrap = refl
 
 -- ---- undefined acts

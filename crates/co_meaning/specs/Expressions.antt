@@ -30,11 +30,11 @@ use Rattle.co_meaning_data.specs.declared.values.Cell.TheVariants as cell
 use Rattle.co_meaning_data.specs.declared.values.Standing.TheVariants as standing
 use Rattle.co_meaning_data.specs.declared.values.Value.{Value}
 use Rattle.co_meaning_data.specs.declared.values.Value.TheVariants as value
-use Rattle.co_meaning_data.specs.Frames.{AddressOf, ArithRight, At, AwaitOperand, BothRight, Building, Calling, ChooseOne, Comes, Constructing, ConvertTo, DeleteEnded, DeleteOf, Drops, EitherRight, Evaluate, ExchangePlace, FieldOf, Frame, Given, Gives, Initialize, Joined, LoadFrom, NewMade, NewTaken, Nothing, OfLibrary, OnAtomic, OnHandle, Operands, Outcome, Parts, Passes, PickOne, Reads, Referent, Releases, ResultInto, RethrowOf, SameRight, Scalar, StoreValue, TempMade, TestOf, ThrowOf, ThrowRead, Throwing, UpdateValue, ValueInto, Writes}
+use Rattle.co_meaning_data.specs.Frames.{Alive, InFull, AddressOf, ArithRight, At, AwaitOperand, BothRight, Building, Calling, ChooseOne, Comes, Constructing, ConvertTo, DeleteEnded, DeleteOf, Drops, EitherRight, Evaluate, ExchangePlace, FieldOf, Frame, Given, Gives, Initialize, Joined, LoadFrom, NewMade, NewTaken, Nothing, OfLibrary, OnAtomic, OnHandle, Operands, Outcome, Parts, Passes, PickOne, Reads, Referent, Releases, ResultInto, RethrowOf, SameRight, Scalar, StoreValue, TempMade, TestOf, ThrowOf, ThrowRead, Throwing, UpdateValue, ValueInto, Writes}
 use Rattle.co_meaning_data.specs.Store.{Place, StoredObject, add_object, end_object, fields_of, make_live, next_object, object_at, raw_object, set_part, set_standing, type_at, whole}
 use Rattle.co_meaning_data.specs.Undefined.{compares_dangling, is_no_place, is_no_room, is_not_new, is_null, is_same, same_value}
 use Rattle.co_meaning_calls.specs.Coroutines.{coroutines, is_zero, null_fault, size_given, take_block}
-use Rattle.co_meaning_calls.specs.Objects.{call_with, counted_in, into_full, lives, type_of_slot, with_raw}
+use Rattle.co_meaning_calls.specs.Objects.{set_mark, call_with, counted_in, lives, type_of_slot, with_raw}
 use Rattle.co_meaning_data.specs.Turn.{Local, Turned, classes, gives, goes, is_uncaught, leaves, nowhere, object_in, passes, pointer, pushed, store, truth, under, unless_undefined, with_frames, with_store}
 
 -- ---- places in the text
@@ -189,11 +189,11 @@ abbrev pub make_temporary : ℕ → Init → Local → Option CoType → Option 
 make_temporary slot i l None = None
 make_temporary slot i l (Some of) =
     let x = next_object (store l) in
-    under (TempMade slot x) (Initialize i (Some (whole x))) (with_raw slot of (counted_in l of) l)
+    under (TempMade slot (record { object = x; coroutine = counted_in l of })) (Initialize i (Some (whole x))) (with_raw slot of (counted_in l of) l)
 
 -- in the step that makes the temporary live its mark is set
-abbrev pub temporary_made : ℕ → ℕ → Local → Option Turned
-temporary_made slot x l = lives x (Gives (At (whole x))) (with_frames (into_full slot x l.top.frames) l)
+abbrev pub temporary_made : ℕ → Alive → Local → Option Turned
+temporary_made slot x l = lives x (InFull slot) (Gives (At (whole x.object))) (with_frames (set_mark slot l.top.frames) l)
 
 -- ---- exceptions [except.throw] [propagation]
 

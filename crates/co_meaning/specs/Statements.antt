@@ -21,13 +21,13 @@ use Rattle.co_core_tree.specs.declared.stmts.CoreStmt.TheVariants as stmt
 use Rattle.co_core_tree.specs.declared.stmts.Handler.{Handler}
 use Rattle.co_meaning_data.specs.declared.values.Value.{Value}
 use Rattle.co_meaning_data.specs.declared.values.Value.TheVariants as value
-use Rattle.co_meaning_data.specs.Frames.{BranchOn, Breaking, Comes, Continuing, Declares, Drops, Evaluate, Execute, Given, Going, Handled, Initialize, Joined, Leaving, LoopBody, LoopStep, LoopTest, Nothing, Outcome, Passes, Returning, Returns, Scalar, Scope, Throwing, Tries, Writes}
+use Rattle.co_meaning_data.specs.Frames.{Alive, InScope, BranchOn, Breaking, Comes, Continuing, Declares, Drops, Evaluate, Execute, Given, Going, Handled, Initialize, Joined, Leaving, LoopBody, LoopStep, LoopTest, Nothing, Outcome, Passes, Returning, Returns, Scalar, Scope, Throwing, Tries, Writes}
 use Rattle.co_meaning_data.specs.Store.{fields_of, next_object, whole}
 use Rattle.co_meaning_calls.specs.Calls.{opens}
 use Rattle.co_meaning_calls.specs.Coroutines.{is_zero}
 use Rattle.co_meaning.specs.Expressions.{flag}
-use Rattle.co_meaning_calls.specs.Objects.{counted_in, endings, ends, into_scope, lives, type_of_slot, with_raw}
-use Rattle.co_meaning_data.specs.Turn.{Local, Turned, classes, funcs, goes, is_undefined, leaves, nowhere, passes, pushed, store, under, with_frames}
+use Rattle.co_meaning_calls.specs.Objects.{counted_in, endings, ends, lives, type_of_slot, with_raw}
+use Rattle.co_meaning_data.specs.Turn.{Local, Turned, classes, funcs, goes, is_undefined, leaves, nowhere, passes, pushed, store, under}
 
 -- ---- full-expressions as parts of statements [intro.execution]
 
@@ -39,11 +39,11 @@ abbrev pub declare_in : ℕ → Init → Local → Option CoType → Option Turn
 declare_in slot i l None = None
 declare_in slot i l (Some of) =
     let x = next_object (store l) in
-    opens (init_acts_of (funcs l) i) (Declares x ∷ []) (Initialize i (Some (whole x))) (with_raw slot of (counted_in l of) l)
+    opens (init_acts_of (funcs l) i) (Declares (record { object = x; coroutine = counted_in l of }) ∷ []) (Initialize i (Some (whole x))) (with_raw slot of (counted_in l of) l)
 
 -- a local is live before the temporaries of its initializer die [stmt.dcl]
-abbrev pub declares : ℕ → Local → Option Turned
-declares x l = lives x Passes (with_frames (into_scope x l.top.frames) l)
+abbrev pub declares : Alive → Local → Option Turned
+declares x l = lives x InScope Passes l
 
 -- ---- statements
 
@@ -62,7 +62,7 @@ execute (stmt.Try' n (more_of-CoreStmt body end_of-CoreStmt) m handlers at) l = 
 execute (stmt.OffEnd at) l = is_undefined U6 at l
 
 -- the next statement of a block; at its end its locals die, the newest first [stmt.block]
-abbrev pub next_statement : List ℕ → List CoreStmt → Local → Option Turned
+abbrev pub next_statement : List Alive → List CoreStmt → Local → Option Turned
 next_statement alive [] l = ends (endings alive) Passes l
 next_statement alive (s ∷ rest) l = under (Scope alive rest) (Execute s) l
 
@@ -125,7 +125,7 @@ abbrev pub catch_into : ℕ → Thrown → Local → Option CoType → Option Tu
 catch_into slot v l None = None
 catch_into slot v l (Some of) =
     let x = next_object (store l) in
-    under (Declares x) (Writes true (whole x) 0 (thrown_values l of v) Passes nowhere) (with_raw slot of (counted_in l of) l)
+    under (Declares (record { object = x; coroutine = counted_in l of })) (Writes true (whole x) 0 (thrown_values l of v) Passes nowhere) (with_raw slot of (counted_in l of) l)
 
 abbrev pub catch_in : Option SlotId → Thrown → Local → Option Turned
 catch_in None v l = passes l

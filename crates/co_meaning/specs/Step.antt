@@ -13,7 +13,7 @@ use Rattle.co_meaning_calls.specs.Calls.{argument, argument_lives, at_border, ca
 use Rattle.co_meaning_calls.specs.Coroutines.{answer_left, answers, await_operand, await_ready, await_resume, closes, draws, final_await, guard_left, has_ended, hold_left, after_end, is_made, is_zero, ramp_body, ramp_copies, ramp_made, ramp_result, ramp_take, ramp_taken, releases, started, suspends_before, unhandled_left}
 use Rattle.co_meaning.specs.Expressions.{arithmetic, both, chooses, compared_with, converted, delete_ended, delete_of, dereferenced, either, evaluate, initialize, new_left, new_made, new_taken, picks, rethrow_parts, temporary_made, tested, thrown_object, throws, updated, values_given}
 use Rattle.co_meaning.specs.Library.{operate}
-use Rattle.co_meaning_calls.specs.Objects.{abandon, dies, end_next, endings, ends, fields_end, has_died, is_born, temporaries_end}
+use Rattle.co_meaning_calls.specs.Objects.{unseen_endings, abandon, dies, end_next, endings, ends, fields_end, has_died, is_born, temporaries_end}
 use Rattle.co_meaning.specs.Statements.{branch, declares, execute, handler_left, loop_body, loop_left, loop_step, loop_tested, next_statement, try_left}
 use Rattle.co_meaning_data.specs.Turn.{Local, Turned, classes, gives, goes, leaves, passes, pointer, pushed, store, under, with_frames, with_store}
 
@@ -138,7 +138,7 @@ pass Returns l = leaves (Returning Nothing) l
 pass (Tries handlers) l = passes l
 pass Handled l = handler_left Passes l
 pass Border l = passes l
-pass (Function own) l = ends (endings own) (Gives Nothing) l
+pass (Function own) l = ends (unseen_endings own) (Gives Nothing) l
 pass RampTake l = ramp_take l
 pass (RampCopies rest) l = ramp_copies rest l
 pass (RampMade x) l = ramp_made x l
@@ -157,12 +157,13 @@ abbrev pub constructor_left : Place → ℕ → Going → Local → Option Turne
 constructor_left p built (Throwing v) l = ends (fields_end p built) (Goes (Throwing v)) l
 constructor_left p built going l = leaves going l
 
--- What is done where a frame is left before it is done. The frame is taken away, and most do nothing more.
+-- What is done where a frame is left before it is done. The frame is taken away, and most do nothing more. What is alive in it ends,
+-- also where a destructor is left.
 abbrev pub leave : Frame → Going → Local → Option Turned
-leave (TempMade slot x) going l = abandon x (Goes going) l
+leave (TempMade slot x) going l = abandon x.object (Goes going) l
 leave (ArgumentMade x) going l = abandon x (Goes going) l
-leave (Declares x) going l = abandon x (Goes going) l
-leave (RampMade x) going l = abandon x (Goes going) l
+leave (Declares x) going l = abandon x.object (Goes going) l
+leave (RampMade x) going l = abandon x.object (Goes going) l
 leave (NewMade x b plan) going l = new_left x b plan (Goes going) l
 leave (Calling call) going l = call_returned call.objects (Goes going) l
 leave (Called objects) going l = call_returned objects (Goes going) l
@@ -171,6 +172,9 @@ leave (Answers n serial a own at) going l = answer_left n serial a own going at 
 leave (Building p built rest) going l = ends (fields_end p built) (Goes going) l
 leave (Constructing p class built rest body) going l = constructor_left p built going l
 leave (FieldsEnd p class) going l = ends (fields_end p (all_fields p l)) (Goes going) l
+leave (Ends rest outcome) going l = ends rest (Goes going) l
+leave (ObjectEnds x) going l = goes (Dies x) (pushed (Ends [] (Goes going)) l)
+leave (PartEnds p) going l = leaves going (with_store (end_part (classes l) p (store l)) l)
 leave (Full ts) going l = ends (temporaries_end ts) (Goes going) l
 leave (Scope alive rest) going l = ends (endings alive) (Goes going) l
 leave (LoopBody e step body) going l = loop_left e step body going l
@@ -203,9 +207,9 @@ act (Opens marks d) l = open_step marks d l
 act (Reads p left done at) l = reads p left done at l
 act (Writes initial p done left outcome at) l = writes initial p done left outcome at l
 act (Comes outcome) l = come l.top.frames outcome l
-act (IsBorn x outcome) l = is_born x outcome l
+act (IsBorn x spot outcome) l = is_born x spot outcome l
 act (Dies x) l = dies x l
-act (HasDied x) l = has_died x l
+act (HasDied c x) l = has_died c x l
 act (Draws b) l = draws b l
 act (IsMade n) l = is_made n l
 act (HasEnded n b outcome) l = has_ended n b outcome l

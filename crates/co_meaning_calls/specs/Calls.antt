@@ -19,8 +19,8 @@ use Rattle.co_meaning_data.specs.declared.values.Cell.TheVariants as cell
 use Rattle.co_meaning_data.specs.declared.values.Value.{Value}
 use Rattle.co_meaning_data.specs.declared.values.Value.TheVariants as value
 use Rattle.co_meaning_data.specs.Frames.{Activation, ArgumentMade, At, Border, Building, Call, Called, Calling, Comes, Constructing, Doing, Execute, FieldMade, FieldsEnd, Frame, Full, Function, Given, Gives, Goes, Going, Idle, Initialize, Kind, Nothing, OfFunction, OfRamp, Opens, Outcome, Passes, RampTake, Returning, Scalar, Temporal, Throwing}
-use Rattle.co_meaning_data.specs.Store.{Place, Store, add_object, field_of_place, live_object, next_object, whole}
-use Rattle.co_meaning_calls.specs.Objects.{endings, ends, lives, slot_type_in, type_of_slot, with_raw}
+use Rattle.co_meaning_data.specs.Store.{make_live, Place, Store, add_object, field_of_place, live_object, next_object, whole}
+use Rattle.co_meaning_calls.specs.Objects.{unseen_endings, ends, slot_type_in, type_of_slot, with_raw}
 use Rattle.co_meaning_data.specs.Turn.{Local, Turned, func_of, funcs, gives, goes, is_uncaught, leaves, parts_for, passes, pushed, rests, store, under, with_frames, with_store}
 
 -- ---- full-expressions [intro.execution]
@@ -30,7 +30,7 @@ has_mark None t = false
 has_mark (Some func) t = if t.conditional then holds_class (slot_at func t.slot) else false
 
 abbrev pub unmade : Option CoreFunc → Temporary → Temporal
-unmade func t = record { slot = t.slot.0; marked = has_mark func t; object = None }
+unmade func t = record { slot = t.slot.0; marked = has_mark func t; live = false; object = None }
 
 abbrev pub unmade_all : Option CoreFunc → List Temporary → List Temporal
 unmade_all func [] = []
@@ -95,7 +95,7 @@ abbrev pub argument : Call → Init → Local → Option Turned
 argument call i l = argument_for (slice_get (class_params (funcs l) call.func) (length call.given)) i call l
 
 abbrev pub argument_made : ℕ → Call → Local → Option Turned
-argument_made x call l = lives x (Gives (At (whole x))) (pushed (Calling (record call { objects = x ∷ call.objects })) l)
+argument_made x call l = gives (At (whole x)) (with_store (make_live x (store l)) (pushed (Calling (record call { objects = x ∷ call.objects })) l))
 
 abbrev pub argument_lives : ℕ → List Frame → Local → Option Turned
 argument_lives x (Calling call ∷ fs) l = argument_made x call (with_frames fs l)
@@ -254,8 +254,8 @@ last_frame (Goes going) l = throws_to l.below going l
 
 -- the parameters of a function's own die after its body, the last first [expr.call]
 abbrev pub function_left : List ℕ → Going → Local → Option Turned
-function_left own (Returning g) l = ends (endings own) (Gives g) l
-function_left own (Throwing v) l = ends (endings own) (Goes (Throwing v)) l
+function_left own (Returning g) l = ends (unseen_endings own) (Gives g) l
+function_left own (Throwing v) l = ends (unseen_endings own) (Goes (Throwing v)) l
 function_left own going l = None
 
 -- an exception goes no further than the border of a function that is noexcept [except.spec]
@@ -266,4 +266,4 @@ at_border going l = leaves going l
 -- what has an end is ended before control is given back to the caller
 abbrev pub call_returned : List ℕ → Outcome → Local → Option Turned
 call_returned [] outcome l = goes (Comes outcome) l
-call_returned (x ∷ xs) outcome l = ends (endings (x ∷ xs)) outcome l
+call_returned (x ∷ xs) outcome l = ends (unseen_endings (x ∷ xs)) outcome l

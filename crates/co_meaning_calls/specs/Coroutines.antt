@@ -30,11 +30,11 @@ use Rattle.co_meaning_data.specs.declared.values.Cell.TheVariants as cell
 use Rattle.co_meaning_data.specs.declared.values.Standing.TheVariants as standing
 use Rattle.co_meaning_data.specs.declared.values.Value.{Value}
 use Rattle.co_meaning_data.specs.declared.values.Value.TheVariants as value
-use Rattle.co_meaning_data.specs.Frames.{Activation, Answers, At, AwaitReady, AwaitResume, AwaitSuspend, Awaits, Call, Calling, Closes, Comes, Condition, Continuation, Coroutine, Destroying, Draws, Drops, Ends, Evaluate, Execute, Final, Frame, Given, Gives, Goes, Going, Guards, Handled, HasEnded, Hold, Holds, Initialize, IsMade, Kind, Leaving, LoadFrom, Nothing, NullDone, OfBody, OfDestroy, OfParked, Outcome, Over, Passes, RampBody, RampCopies, RampDone, RampMade, RampResult, RampTaken, Releases, Running, Scalar, Started, Suspended, Throwing, Unhandled}
+use Rattle.co_meaning_data.specs.Frames.{Alive, InHold, Activation, Answers, At, AwaitReady, AwaitResume, AwaitSuspend, Awaits, Call, Calling, Closes, Comes, Condition, Continuation, Coroutine, Destroying, Draws, Drops, Ends, Evaluate, Execute, Final, Frame, Given, Gives, Goes, Going, Guards, Handled, HasEnded, Hold, Holds, Initialize, IsMade, Kind, Leaving, LoadFrom, Nothing, NullDone, OfBody, OfDestroy, OfParked, Outcome, Over, Passes, RampBody, RampCopies, RampDone, RampMade, RampResult, RampTaken, Releases, Running, Scalar, Started, Suspended, Throwing, Unhandled}
 use Rattle.co_meaning_data.specs.Store.{Place, add_block, add_object, live_object, next_block, next_object, release, set_part, set_standing, whole}
 use Rattle.co_meaning_data.specs.Undefined.{Fault, at_final, is_no_block, is_no_room, not_suspended, not_taken_back, numbered}
 use Rattle.co_meaning_calls.specs.Calls.{border, call_acts, calls, opens, returns}
-use Rattle.co_meaning_calls.specs.Objects.{call_with, counted_in, endings, ends, into_hold, lives, type_of_slot, with_raw}
+use Rattle.co_meaning_calls.specs.Objects.{unseen_endings, call_with, counted_in, endings, ends, lives, type_of_slot, with_raw}
 use Rattle.co_meaning_data.specs.Turn.{Local, Turned, classes, frame_bytes, func_of, funcs, gives, goes, happens, leaves, nowhere, passes, plan_in, pointer, pushed, store, under, unless_undefined, with_frames, with_slot, with_store}
 
 -- ---- coroutines by number
@@ -161,7 +161,7 @@ ramp_copy_of copy rest l None = None
 ramp_copy_of copy rest l (Some of) =
     let x = next_object (store l) in
     let made = pushed (RampCopies rest) (with_raw copy.to.0 of (counted_in l of) l) in
-    opens (init_acts_here made copy.init) (RampMade x ∷ []) (Initialize copy.init (Some (whole x))) made
+    opens (init_acts_here made copy.init) (RampMade (record { object = x; coroutine = counted_in l of }) ∷ []) (Initialize copy.init (Some (whole x))) made
 
 abbrev pub is_promise_kind : SlotKind → Bool
 is_promise_kind slot_kind.Promise = true
@@ -186,10 +186,10 @@ promised_by x l (Some n) = promised n x l (numbered (coroutines l) n)
 abbrev pub ctor_call : FuncId → Bool → List Init → ℕ → Local → Call
 ctor_call f with_params args x l = record { func = f; given = At (whole x) ∷ []; objects = []; rest = if with_params then args else []; into = None; at = func_span l }
 
-abbrev pub construct_promise : PromisePlan → ℕ → Local → Option FuncId → Option Turned
-construct_promise plan x l None = under (RampMade x) (Comes Passes) (with_store (set_part (classes l) (whole x) cell.Indeterminate (store l)) l)
+abbrev pub construct_promise : PromisePlan → Alive → Local → Option FuncId → Option Turned
+construct_promise plan x l None = under (RampMade x) (Comes Passes) (with_store (set_part (classes l) (whole x.object) cell.Indeterminate (store l)) l)
 construct_promise plan x l (Some f) =
-    let call = ctor_call f plan.with_params plan.ctor_args x l in
+    let call = ctor_call f plan.with_params plan.ctor_args x.object l in
     opens (call_acts l call) (Calling call ∷ Drops ∷ RampMade x ∷ []) (Comes Passes) l
 
 abbrev pub make_promise_in : PromisePlan → ℕ → Local → Option CoType → Option Turned
@@ -197,7 +197,7 @@ make_promise_in plan slot l None = None
 make_promise_in plan slot l (Some of) =
     let x = next_object (store l) in
     let made = promised_by x (with_raw slot of (counted_in l of) l) l.top.coroutine in
-    construct_promise plan x (pushed RampResult made) plan.ctor
+    construct_promise plan (record { object = x; coroutine = counted_in l of }) (pushed RampResult made) plan.ctor
 
 abbrev pub make_promise_at : Local → Option PromisePlan → Option ℕ → Option Turned
 make_promise_at l (Some plan) (Some slot) = make_promise_in plan slot l (type_of_slot l slot)
@@ -209,8 +209,8 @@ ramp_copies (copy ∷ rest) l = ramp_copy_of copy rest l (type_of_slot l copy.to
 ramp_copies [] l = make_promise_at l (plan_of l) (promise_in (func_of l))
 
 -- the copy or the promise is live
-abbrev pub ramp_made : ℕ → Local → Option Turned
-ramp_made x l = lives x Passes (with_frames (into_hold x l.top.frames) l)
+abbrev pub ramp_made : Alive → Local → Option Turned
+ramp_made x l = lives x InHold Passes l
 
 abbrev pub promise_of_top : Local → Option Coroutine → Option ℕ
 promise_of_top l None = None
@@ -442,7 +442,7 @@ await_resume plan into l = goes (Evaluate plan.resume into) (reached_at plan.poi
 -- whether `await_suspend` is a call; that of the library's awaiters is none
 abbrev pub is_call : CoreExpr → Bool
 is_call (expr.Call' f n args at) = true
-is_call (expr.Load' n (more_of-CoreExpr (expr.Call' f m args at) end_of-CoreExpr) where_) = true
+is_call (expr.Load' n (more_of-CoreExpr (expr.Call' f m args at) end_of-CoreExpr) place) = true
 is_call e = false
 
 abbrev pub suspended_at : ℕ → ℕ → Continuation → Condition
@@ -510,9 +510,9 @@ answered n serial a g at l = None
 -- the temporaries of the agent's own die first
 abbrev pub answers : ℕ → ℕ → Answer → List ℕ → Given → Span → Local → Option Turned
 answers n serial a [] g at l = answered n serial a g at l
-answers n serial a (x ∷ own) g at l = ends (endings (x ∷ own)) (Gives g) (pushed (Answers n serial a [] at) l)
+answers n serial a (x ∷ own) g at l = ends (unseen_endings (x ∷ own)) (Gives g) (pushed (Answers n serial a [] at) l)
 
 -- an exception out of `await_suspend` is thrown in the coroutine, which runs again
 abbrev pub answer_left : ℕ → ℕ → Answer → List ℕ → Going → Span → Local → Option Turned
 answer_left n serial a [] going at l = take_back n serial (Goes going) at l
-answer_left n serial a (x ∷ own) going at l = ends (endings (x ∷ own)) (Goes going) (pushed (Answers n serial a [] at) l)
+answer_left n serial a (x ∷ own) going at l = ends (unseen_endings (x ∷ own)) (Goes going) (pushed (Answers n serial a [] at) l)

@@ -12,9 +12,9 @@ use Rattle.co_core_tree.specs.Slots.{is_class}
 use Rattle.co_core_tree.specs.declared.units.CoreFunc.{CoreFunc}
 use Rattle.co_core_tree.specs.declared.units.SlotInfo.{SlotInfo}
 use Rattle.co_meaning_data.specs.declared.events.Event.TheVariants as event
-use Rattle.co_meaning_data.specs.Frames.{At, AwaitSuspend, Calling, Comes, Dies, Ending, Ends, EndsObject, EndsPart, Frame, Full, Given, HasDied, Holds, IsBorn, ObjectEnds, Outcome, PartEnds, Passes, PassesMark, Scope, Temporal}
-use Rattle.co_meaning_data.specs.Store.{Place, add_object, coroutine_of, end_object, end_part, make_live, next_object, raw_object, type_at, whole}
-use Rattle.co_meaning_data.specs.Turn.{Local, Turned, classes, func_of, goes, happens, nowhere, passes, pushed, store, under, with_slot, with_store}
+use Rattle.co_meaning_data.specs.Frames.{Alive, Spot, InScope, InFull, InHold, At, AwaitSuspend, Calling, Comes, Dies, Ending, Ends, EndsObject, EndsPart, Frame, Full, Given, HasDied, Holds, IsBorn, ObjectEnds, Outcome, PartEnds, Passes, PassesMark, Scope, Temporal}
+use Rattle.co_meaning_data.specs.Store.{Place, add_object, end_object, end_part, make_live, next_object, raw_object, type_at, whole}
+use Rattle.co_meaning_data.specs.Turn.{with_frames, Local, Turned, classes, func_of, goes, happens, nowhere, passes, pushed, store, under, with_slot, with_store}
 
 -- ---- making [basic.life]
 
@@ -39,55 +39,83 @@ abbrev pub with_raw : ℕ → CoType → Option ℕ → Local → Local
 with_raw slot of coroutine l =
     with_slot slot (next_object (store l)) (with_store (add_object (raw_object (classes l) of None coroutine) (store l)) l)
 
-abbrev pub born_in : ℕ → Outcome → Local → Option ℕ → Option Turned
-born_in x outcome l None = goes (Comes outcome) l
-born_in x outcome l (Some c) = goes (IsBorn x outcome) l
-
--- The object is live from this step on, and its birth is seen in the next one [basic.life].
-abbrev pub lives : ℕ → Outcome → Local → Option Turned
-lives x outcome l = born_in x outcome (with_store (make_live x (store l)) l) (coroutine_of (store l) x)
-
-abbrev pub birth : ℕ → Outcome → Local → Option ℕ → Option Turned
-birth x outcome l None = goes (Comes outcome) l
-birth x outcome l (Some c) = goes (Comes outcome) (happens (event.Born c x) l)
-
--- the event of a birth
-abbrev pub is_born : ℕ → Outcome → Local → Option Turned
-is_born x outcome l = birth x outcome l (coroutine_of (store l) x)
+-- an object whose birth and death are not seen
+abbrev pub unseen : ℕ → Alive
+unseen x = record { object = x; coroutine = None }
 
 -- ---- what is alive in the frames
 
 -- the local stands in its block's scope from now on [stmt.block]
-abbrev pub into_scope : ℕ → List Frame → List Frame
+abbrev pub into_scope : Alive → List Frame → List Frame
 into_scope x [] = []
 into_scope x (Scope alive rest ∷ fs) = Scope (x ∷ alive) rest ∷ fs
 into_scope x (f ∷ fs) = f ∷ into_scope x fs
 
-abbrev pub made_temporaries : ℕ → ℕ → List Temporal → List Temporal
+abbrev pub made_temporaries : ℕ → Alive → List Temporal → List Temporal
 made_temporaries slot x [] = []
 made_temporaries slot x (t ∷ ts) = if t.slot == slot then record t { object = Some x } ∷ ts else t ∷ made_temporaries slot x ts
 
--- The temporary stands in its full-expression from now on, and its mark is set. One that is made for `await_suspend` is the
--- agent's own [class.temporary].
-abbrev pub into_full : ℕ → ℕ → List Frame → List Frame
+-- The temporary stands in its full-expression from now on. One that is made for `await_suspend` is the agent's own
+-- [class.temporary].
+abbrev pub into_full : ℕ → Alive → List Frame → List Frame
 into_full slot x [] = []
 into_full slot x (Full ts ∷ fs) = Full (made_temporaries slot x ts) ∷ fs
-into_full slot x (AwaitSuspend plan into own ∷ fs) = AwaitSuspend plan into (x ∷ own) ∷ fs
+into_full slot x (AwaitSuspend plan into own ∷ fs) = AwaitSuspend plan into (x.object ∷ own) ∷ fs
 into_full slot x (f ∷ fs) = f ∷ into_full slot x fs
 
 -- the parameter copy or the promise is alive from now on [dcl.fct.def.coroutine]
-abbrev pub into_hold : ℕ → List Frame → List Frame
+abbrev pub into_hold : Alive → List Frame → List Frame
 into_hold x [] = []
 into_hold x (Holds hold ∷ fs) = Holds (record hold { alive = x ∷ hold.alive }) ∷ fs
 into_hold x (f ∷ fs) = f ∷ into_hold x fs
 
+abbrev pub stands : Spot → Alive → List Frame → List Frame
+stands InScope x fs = into_scope x fs
+stands (InFull slot) x fs = into_full slot x fs
+stands InHold x fs = into_hold x fs
+
+abbrev pub live_temporaries : ℕ → List Temporal → List Temporal
+live_temporaries slot [] = []
+live_temporaries slot (t ∷ ts) = if t.slot == slot then record t { live = true } ∷ ts else t ∷ live_temporaries slot ts
+
+-- the temporary is live, and its mark is set
+abbrev pub set_mark : ℕ → List Frame → List Frame
+set_mark slot [] = []
+set_mark slot (Full ts ∷ fs) = Full (live_temporaries slot ts) ∷ fs
+set_mark slot (f ∷ fs) = f ∷ set_mark slot fs
+
+-- ---- the beginning of a lifetime [basic.life]
+
+abbrev pub standing_at : Alive → Spot → Local → Local
+standing_at x spot l = with_frames (stands spot x l.top.frames) l
+
+abbrev pub born_in : Alive → Spot → Outcome → Local → Option ℕ → Option Turned
+born_in x spot outcome l None = goes (Comes outcome) (standing_at x spot l)
+born_in x spot outcome l (Some c) = goes (IsBorn x spot outcome) l
+
+-- The object is live from this step on. Where its birth is seen it is seen in the next one.
+abbrev pub lives : Alive → Spot → Outcome → Local → Option Turned
+lives x spot outcome l = born_in x spot outcome (with_store (make_live x.object (store l)) l) x.coroutine
+
+abbrev pub birth : Alive → Spot → Outcome → Local → Option ℕ → Option Turned
+birth x spot outcome l None = None
+birth x spot outcome l (Some c) = goes (Comes outcome) (happens (event.Born c x.object) (standing_at x spot l))
+
+-- the event of a birth
+abbrev pub is_born : Alive → Spot → Outcome → Local → Option Turned
+is_born x spot outcome l = birth x spot outcome l x.coroutine
+
 -- ---- what is to end
 
-abbrev pub endings : List ℕ → List Ending
+abbrev pub endings : List Alive → List Ending
 endings [] = []
 endings (x ∷ xs) = EndsObject x ∷ endings xs
 
-abbrev pub temporary_ends : Bool → Option ℕ → List Ending
+abbrev pub unseen_endings : List ℕ → List Ending
+unseen_endings [] = []
+unseen_endings (x ∷ xs) = EndsObject (unseen x) ∷ unseen_endings xs
+
+abbrev pub temporary_ends : Bool → Option Alive → List Ending
 temporary_ends true x = PassesMark x ∷ []
 temporary_ends false None = []
 temporary_ends false (Some x) = EndsObject x ∷ []
@@ -124,13 +152,13 @@ dtor_of_type l (Some of) = dtor_of_head l (head_of of)
 abbrev pub call_with : FuncId → List Given → Option Place → Span → Frame
 call_with f given into at = Calling (record { func = f; given = given; objects = []; rest = []; into = into; at = at })
 
-abbrev pub end_object_by : ℕ → Local → Option FuncId → Option Turned
+abbrev pub end_object_by : Alive → Local → Option FuncId → Option Turned
 end_object_by x l None = goes (Dies x) l
-end_object_by x l (Some f) = under (call_with f (At (whole x) ∷ []) None nowhere) (Comes Passes) (pushed (ObjectEnds x) l)
+end_object_by x l (Some f) = under (call_with f (At (whole x.object) ∷ []) None nowhere) (Comes Passes) (pushed (ObjectEnds x) l)
 
 -- the end of an object begins: its destructor is called, if it has one
-abbrev pub end_whole : ℕ → Local → Option Turned
-end_whole x l = end_object_by x l (dtor_of_type l (type_at (classes l) (store l) (whole x)))
+abbrev pub end_whole : Alive → Local → Option Turned
+end_whole x l = end_object_by x l (dtor_of_type l (type_at (classes l) (store l) (whole x.object)))
 
 abbrev pub end_part_by : Place → Local → Option FuncId → Option Turned
 end_part_by p l None = passes (with_store (end_part (classes l) p (store l)) l)
@@ -148,21 +176,17 @@ end_next (EndsPart p ∷ rest) outcome l = end_field p (pushed (Ends rest outcom
 end_next (PassesMark None ∷ rest) outcome l = ends rest outcome l
 end_next (PassesMark (Some x) ∷ rest) outcome l = ends (EndsObject x ∷ rest) outcome l
 
-abbrev pub died_in : ℕ → Local → Option ℕ → Option Turned
+abbrev pub died_in : Alive → Local → Option ℕ → Option Turned
 died_in x l None = passes l
-died_in x l (Some c) = goes (HasDied x) l
+died_in x l (Some c) = goes (HasDied c x.object) l
 
--- The object is ended: its destructor, if any, has returned. Its death is seen in the next step [basic.life].
-abbrev pub dies : ℕ → Local → Option Turned
-dies x l = died_in x (with_store (end_object x (store l)) l) (coroutine_of (store l) x)
-
-abbrev pub death : ℕ → Local → Option ℕ → Option Turned
-death x l None = passes l
-death x l (Some c) = passes (happens (event.Died c x) l)
+-- The object is ended: its destructor, if any, has returned. Where its death is seen it is seen in the next step [basic.life].
+abbrev pub dies : Alive → Local → Option Turned
+dies x l = died_in x (with_store (end_object x.object (store l)) l) x.coroutine
 
 -- the event of a death
-abbrev pub has_died : ℕ → Local → Option Turned
-has_died x l = death x l (coroutine_of (store l) x)
+abbrev pub has_died : ℕ → ℕ → Local → Option Turned
+has_died c x l = passes (happens (event.Died c x) l)
 
 -- an object whose initialization is left is ended, without an event, and the leaving goes on [except.ctor]
 abbrev pub abandon : ℕ → Outcome → Local → Option Turned

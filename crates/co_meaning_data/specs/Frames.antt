@@ -51,18 +51,30 @@ pub data Outcome : Type 0 where
 
 -- ---- what is left to be done
 
--- A temporary of a full-expression: its slot, whether it has a mark, and its object, once it is made. The mark is set exactly
--- while there is an object.
+-- An object that is alive, or is to be, and the coroutine, if there is one, in which its birth and its death are seen.
+pub record Alive : Type 0 where
+  pub object : ℕ
+  pub coroutine : Option ℕ
+
+-- where an object stands while it is alive: in its block, in its full-expression, or with the promise
+pub data Spot : Type 0 where
+  InScope : Spot
+  InFull : (slot : ℕ) → Spot
+  InHold : Spot
+
+-- A temporary of a full-expression: its slot, whether it has a mark, whether it is live, to which its mark is set, and its object,
+-- once its birth was seen.
 pub record Temporal : Type 0 where
   pub slot : ℕ
   pub marked : Bool
-  pub object : Option ℕ
+  pub live : Bool
+  pub object : Option Alive
 
 -- what is to end: a whole object, a part of one, or where a mark is set the object of a temporary
 pub data Ending : Type 0 where
-  EndsObject : (x : ℕ) → Ending
+  EndsObject : (x : Alive) → Ending
   EndsPart : (place : Place) → Ending
-  PassesMark : (object : Option ℕ) → Ending
+  PassesMark : (object : Option Alive) → Ending
 
 -- an act of the library whose operands are evaluated first
 pub data Operation : Type 0 where
@@ -85,7 +97,7 @@ pub record Call : Type 0 where
 pub record Hold : Type 0 where
   pub coroutine : ℕ
   pub block : ℕ
-  pub alive : List ℕ
+  pub alive : List Alive
 
 -- One thing that is left to be done. In a list of frames the innermost stands first.
 pub data Frame : Type 0 where
@@ -112,7 +124,7 @@ pub data Frame : Type 0 where
   EitherRight : (right : CoreExpr) → Frame
   PickOne : (x y : CoreExpr) → Frame
   Joined : Frame  -- the end of a branch
-  TempMade : (slot x : ℕ) → Frame
+  TempMade : (slot : ℕ) (x : Alive) → Frame
   ThrowOf : (of : CoType) (at : Span) → Frame
   ThrowRead : (class : ClassId) → Frame  -- awaits the members of a thrown object
   RethrowOf : (at : Span) → Frame
@@ -143,13 +155,13 @@ pub data Frame : Type 0 where
   -- the ends of objects [class.dtor]
   FieldsEnd : (place : Place) (class : ClassId) → Frame  -- the fields end after the body of a destructor
   Ends : (rest : List Ending) (outcome : Outcome) → Frame
-  ObjectEnds : (x : ℕ) → Frame
+  ObjectEnds : (x : Alive) → Frame
   PartEnds : (place : Place) → Frame
   -- statements [stmt]
   Drops : Frame
   Full : (temporaries : List Temporal) → Frame  -- a full-expression, its last temporary first
-  Scope : (alive : List ℕ) (rest : List CoreStmt) → Frame
-  Declares : (x : ℕ) → Frame
+  Scope : (alive : List Alive) (rest : List CoreStmt) → Frame
+  Declares : (x : Alive) → Frame
   BranchOn : (x y : CoreStmt) → Frame
   LoopTest : (condition step : CoreExpr) (body : CoreStmt) → Frame
   LoopBody : (condition step : CoreExpr) (body : CoreStmt) → Frame
@@ -165,7 +177,7 @@ pub data Frame : Type 0 where
   RampTake : Frame
   RampTaken : Frame
   RampCopies : (rest : List CopyPlan) → Frame
-  RampMade : (x : ℕ) → Frame  -- a parameter copy or the promise is being made
+  RampMade : (x : Alive) → Frame  -- a parameter copy or the promise is being made
   RampResult : Frame  -- the result follows the promise
   RampBody : Frame  -- awaits the call that makes the result
   RampDone : Frame  -- awaits the return of the body
@@ -188,9 +200,9 @@ pub data Doing : Type 0 where
   Reads : (place : Place) (left : ℕ) (done : List Value) (at : Span) → Doing
   Writes : (initial : Bool) (place : Place) (done : ℕ) (left : List Value) (outcome : Outcome) (at : Span) → Doing
   Comes : (outcome : Outcome) → Doing
-  IsBorn : (x : ℕ) (outcome : Outcome) → Doing  -- the event of its birth
-  Dies : (x : ℕ) → Doing  -- the object ends, after its destructor
-  HasDied : (x : ℕ) → Doing  -- the event of its death
+  IsBorn : (x : Alive) (spot : Spot) (outcome : Outcome) → Doing  -- the event of the birth of an object that is live
+  Dies : (x : Alive) → Doing  -- the object ends, after its destructor
+  HasDied : (coroutine x : ℕ) → Doing  -- the event of its death
   Draws : (block : ℕ) → Doing  -- the next coroutine number
   IsMade : (coroutine : ℕ) → Doing  -- the event of its making
   HasEnded : (coroutine block : ℕ) (outcome : Outcome) → Doing  -- the event of its end

@@ -255,7 +255,3 @@ is_ended s x = is_ended_of (object_at s x)
 abbrev pub coroutine_in : Option StoredObject → Option ℕ
 coroutine_in None = None
 coroutine_in (Some o) = o.coroutine
-
--- the coroutine whose promise, parameter copy, local or temporary of a class the object is
-abbrev pub coroutine_of : Store → ℕ → Option ℕ
-coroutine_of s x = coroutine_in (object_at s x)
