@@ -1,0 +1,34 @@
+use Rattle.std.proofs.Common.{rules, arith}
+use Rattle.std.proofs.lemmas.Grind.{common_steps}
+use Rattle.co_grammar.specs.Names.{holds}
+use Rattle.co_parse.specs.Declarations.{more_parameters, parameters_from}
+use Rattle.co_parse.proofs.Turns.{one_more, no_more}
+use Rattle.co_parse.proofs.declarations.more_parameters.Goals as goal
+
+pub loop-turn-init : goal.loop-turn-init
+unfolding more_parameters
+loop-turn-init c = first_of (search rules, grind (arith, common_steps))
+
+pub returns-in_err-parameter : goal.returns-in_err-parameter
+unfolding parameters_from
+returns-in_err-parameter c =
+    let e = one_more (λ n. parameters_from (holds c.args.within.now.classes.now) n c.loop-turn.found c.loop-turn.cursor) _ c.loop-turn._turn c.loop-turn-test.true c.loop-turn.invariant in
+    first_of (search rules, grind (arith, common_steps))
+
+pub returns-then-not-eat : goal.returns-then-not-eat
+unfolding parameters_from
+returns-then-not-eat c =
+    let e = one_more (λ n. parameters_from (holds c.args.within.now.classes.now) n c.loop-turn.found c.loop-turn.cursor) _ c.loop-turn._turn c.loop-turn-test.true c.loop-turn.invariant in
+    first_of (search rules, grind (arith, common_steps))
+
+pub loop-turn-preserved : goal.loop-turn-preserved
+unfolding parameters_from
+loop-turn-preserved c =
+    let e = one_more (λ n. parameters_from (holds c.args.within.now.classes.now) n c.loop-turn.found c.loop-turn.cursor) _ c.loop-turn._turn c.loop-turn-test.true c.loop-turn.invariant in
+    first_of (search rules, grind (arith, common_steps))
+
+pub returns : goal.returns
+unfolding parameters_from
+returns c =
+    let e = no_more (λ n. parameters_from (holds c.args.within.now.classes.now) n c.loop-turn.found c.loop-turn.cursor) _ c.loop-turn._turn c.loop-turn-test.false c.loop-turn.invariant in
+    first_of (search rules, grind (arith, common_steps))

@@ -1,0 +1,34 @@
+use Rattle.std.proofs.Common.{rules, arith}
+use Rattle.std.proofs.lemmas.Grind.{common_steps}
+use Rattle.co_grammar.specs.Names.{holds}
+use Rattle.co_parse.specs.Declarations.{declarations, declarations_from}
+use Rattle.co_parse.proofs.Turns.{one_more, no_more}
+use Rattle.co_parse.proofs.members.declarations.Goals as goal
+
+pub loop-turn-init : goal.loop-turn-init
+unfolding declarations
+loop-turn-init c = first_of (search rules, grind (arith, common_steps))
+
+pub returns-in_err-declaration : goal.returns-in_err-declaration
+unfolding declarations_from
+returns-in_err-declaration c =
+    let e = one_more (λ n. declarations_from (holds c.args.within.now.classes.now) c.args.within.now.depth n c.loop-turn.found c.loop-turn.cursor) _ c.loop-turn._turn c.loop-turn-test.true c.loop-turn.invariant in
+    first_of (search rules, grind (arith, common_steps))
+
+pub returns-then-is_end : goal.returns-then-is_end
+unfolding declarations_from
+returns-then-is_end c =
+    let e = one_more (λ n. declarations_from (holds c.args.within.now.classes.now) c.args.within.now.depth n c.loop-turn.found c.loop-turn.cursor) _ c.loop-turn._turn c.loop-turn-test.true c.loop-turn.invariant in
+    first_of (search rules, grind (arith, common_steps))
+
+pub loop-turn-preserved : goal.loop-turn-preserved
+unfolding declarations_from
+loop-turn-preserved c =
+    let e = one_more (λ n. declarations_from (holds c.args.within.now.classes.now) c.args.within.now.depth n c.loop-turn.found c.loop-turn.cursor) _ c.loop-turn._turn c.loop-turn-test.true c.loop-turn.invariant in
+    first_of (search rules, grind (arith, common_steps))
+
+pub returns : goal.returns
+unfolding declarations_from
+returns c =
+    let e = no_more (λ n. declarations_from (holds c.args.within.now.classes.now) c.args.within.now.depth n c.loop-turn.found c.loop-turn.cursor) _ c.loop-turn._turn c.loop-turn-test.false c.loop-turn.invariant in
+    first_of (search rules, grind (arith, common_steps))

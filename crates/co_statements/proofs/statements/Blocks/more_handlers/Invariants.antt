@@ -1,0 +1,9 @@
+use Rattle.std.proofs.Common.{◌≡◌, ◌-◌}
+use Rattle.co_grammar.specs.Names.{holds}
+use Rattle.co_expressions.specs.Expressions.{expression}
+use Rattle.co_statements.specs.Statements.{statement}
+use Rattle.co_statements.specs.Statements.{more_handlers, handlers_from}
+use Rattle.co_statements.proofs.statements.Blocks.more_handlers.Given as goal
+
+abbrev pub invariant-loop-turn : goal.invariant-loop-turn
+invariant-loop-turn g l = more_handlers (holds l.self.within.classes.now) (expression (holds l.self.within.classes.now) l.self.within.depth) (statement (holds l.self.within.classes.now) l.self.within.depth) l.fn.first l.fn.cursor ≡ handlers_from (holds l.self.within.classes.now) (expression (holds l.self.within.classes.now) l.self.within.depth) (statement (holds l.self.within.classes.now) l.self.within.depth) (l._turn-end - l._turn) l.found l.cursor
