@@ -1,5 +1,5 @@
 ghost use Rattle.std.specs.Prelude.{◌≡◌};
-ghost use Rattle.co_core_valid.specs.Valid.{IsValid};
+ghost use Rattle.co_core.specs.Valid.{IsValid};
 
 use co_core_tree::UnitParts;
 use std::marker::Model;
@@ -13,7 +13,7 @@ pub struct Unit {
 
 impl Model for Unit {
     ghost use Rattle.co_core_tree.specs.declared.units.UnitParts.{UnitParts};
-    ghost use Rattle.co_core_valid.specs.Valid.{IsValid};
+    ghost use Rattle.co_core.specs.Valid.{IsValid};
     ghost use Rattle.co_types.specs.contracts.types.CoType as of_type;
     ghost use Rattle.co_core_tree.specs.contracts.exprs.AwaitPlan as of_await;
     ghost use Rattle.co_core_tree.specs.contracts.exprs.CoreExpr as of_expr;

@@ -27,10 +27,10 @@ use Rattle.co_core_tree.specs.declared.exprs.DeletePlan.{DeletePlan}
 use Rattle.co_core_tree.specs.declared.units.CoreFunc.{CoreFunc}
 use Rattle.co_core_tree.specs.declared.units.UnitParts.{UnitParts}
 use Rattle.co_core_tree.specs.Slots.{slot_at}
-use Rattle.co_core_types.specs.Gives.{Nothing, Throws, Value, plain_shape, pointer_shape, number, truth, is_right, is_some_number, value_converts, arith_gives, field_place, referent, pointer_to, loaded, joined}
-use Rattle.co_core_types.specs.Forms.{store_fits, arith_fits, update_fits, updated, is_testable, same_fits, are_truths, pick_fits, handle_gives, atomic_gives, lib_gives, is_object, delete_fits, is_temp, makes_temp, await_fits, choose_fits}
-use Rattle.co_core_typed.specs.Tables.{slot_place, slot_type, param_types_of, after_first, is_plain, constructs, call_gives, throw_fits}
-use Rattle.co_core_typed.specs.Rules.{gives, typed, init_typed, all_give, all_typed, args_typed, fields_typed, arguments_typed, members_typed, fields_of_head, has_members, inside}
+use Rattle.co_core_typing.specs.Gives.{Nothing, Throws, Value, plain_shape, pointer_shape, number, truth, is_right, is_some_number, value_converts, arith_gives, field_place, referent, pointer_to, loaded, joined}
+use Rattle.co_core_typing.specs.Forms.{store_fits, arith_fits, update_fits, updated, is_testable, same_fits, are_truths, pick_fits, handle_gives, atomic_gives, lib_gives, is_object, delete_fits, is_temp, makes_temp, await_fits, choose_fits}
+use Rattle.co_core_typing.specs.Tables.{slot_place, slot_type, param_types_of, after_first, is_plain, constructs, call_gives, throw_fits}
+use Rattle.co_core_typing.specs.Rules.{gives, typed, init_typed, all_give, all_typed, args_typed, fields_typed, arguments_typed, members_typed, fields_of_head, has_members, inside}
 
 -- the row of a form that holds a list
 abbrev init_row : CoreExpr → (n : Count) × Row_of-Init n

@@ -25,16 +25,16 @@ use Rattle.co_core_tree.specs.declared.exprs.DeletePlan.{DeletePlan}
 use Rattle.co_core_tree.specs.declared.units.CoreFunc.{CoreFunc}
 use Rattle.co_core_tree.specs.declared.units.UnitParts.{UnitParts}
 use Rattle.co_core_tree.specs.Slots.{slot_at}
-use Rattle.co_core_types.specs.Gives.{Gives, Nothing, Throws, Value, plain_shape, pointer_shape, number, truth, is_right, is_some_number, value_converts, arith_gives, field_place, referent, pointer_to, loaded, joined}
-use Rattle.co_core_types.specs.Forms.{store_fits, arith_fits, update_fits, updated, is_testable, same_fits, are_truths, pick_fits, handle_gives, atomic_gives, lib_gives, is_object, delete_fits, choose_fits}
-use Rattle.co_core_typed.specs.Tables.{slot_place, slot_type, types_of, param_types_of, after_first, is_plain, constructs, throw_fits}
-use Rattle.co_core_typed.specs.Rules.{gives, typed, init_typed, arguments_typed, members_typed, fields_of_head, has_members, inside}
+use Rattle.co_core_typing.specs.Gives.{Gives, Nothing, Throws, Value, plain_shape, pointer_shape, number, truth, is_right, is_some_number, value_converts, arith_gives, field_place, referent, pointer_to, loaded, joined}
+use Rattle.co_core_typing.specs.Forms.{store_fits, arith_fits, update_fits, updated, is_testable, same_fits, are_truths, pick_fits, handle_gives, atomic_gives, lib_gives, is_object, delete_fits, choose_fits}
+use Rattle.co_core_typing.specs.Tables.{slot_place, slot_type, types_of, param_types_of, after_first, is_plain, constructs, throw_fits}
+use Rattle.co_core_typing.specs.Rules.{gives, typed, init_typed, arguments_typed, members_typed, fields_of_head, has_members, inside}
 use Rattle.std.specs.Prelude.{Option, length, zero, suc, ◌<◌, ◌≤◌}
 use Rattle.std.proofs.Common.{sym, drop, arith}
 use Rattle.std.proofs.lemmas.List.{drop_more}
 use Rattle.std.proofs.Math.Dec.{eqb-suc-zero}
 use Rattle.co_types.specs.declared.types.Head.{Head}
-use Rattle.co_core_typed.specs.Rules.{await_typed}
+use Rattle.co_core_typing.specs.Rules.{await_typed}
 use Rattle.co_core_typed.proofs.Forms.{gives_field, typed_field, gives_deref, typed_deref, gives_address, typed_address, gives_load, typed_load, gives_store, typed_store, gives_exchange, typed_exchange, gives_update, typed_update, gives_arith, typed_arith, gives_convert, typed_convert, gives_test, typed_test, gives_same, typed_same, gives_both, typed_both, gives_either, typed_either, gives_pick, typed_pick, gives_temp, typed_temp, gives_throw, typed_throw, gives_rethrow_ptr, typed_rethrow_ptr, gives_await, typed_await, gives_new, typed_new, gives_delete, typed_delete, typed_call, gives_handle, typed_handle, gives_atomic, typed_atomic, gives_lib, typed_lib, typed_ctor, typed_members, typed_choose}
 
 drop_all : {A : Type 0} → (k : ℕ) (xs : List A) → length xs ≤ k → drop k xs ≡ []

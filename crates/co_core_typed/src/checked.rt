@@ -1,9 +1,9 @@
 ghost use Rattle.std.specs.Prelude.{◌≡◌, ◌&&◌, true};
 ghost use Rattle.std.specs.Option.{option_copied};
-ghost use Rattle.co_core_types.specs.Forms as form;
-ghost use Rattle.co_core_types.specs.Gives as give;
+ghost use Rattle.co_core_typing.specs.Forms as form;
+ghost use Rattle.co_core_typing.specs.Gives as give;
 ghost use Rattle.co_core_types.specs.Seen.{known_type, seen};
-ghost use Rattle.co_core_typed.specs.Tables as table;
+ghost use Rattle.co_core_typing.specs.Tables as table;
 
 use crate::tables::{field_place, throw_fits};
 use co_base::{Num, Op, SlotId};

@@ -4,17 +4,16 @@ ghost use Rattle.std.specs.List.{list_all, list_any};
 ghost use Rattle.co_types.specs.Types.{target_of};
 ghost use Rattle.co_types.specs.Classes as classes;
 ghost use Rattle.co_core_tree.specs.Slots.{slot_at};
-ghost use Rattle.co_core_types.specs.Gives as give;
+ghost use Rattle.co_core_typing.specs.Gives as give;
 ghost use Rattle.co_core_types.specs.Seen.{known_type, seen};
-ghost use Rattle.co_core_typed.specs.Tables as spec;
+ghost use Rattle.co_core_typing.specs.Tables as spec;
 
 use co_base::{ClassId, FuncId, Num, SlotId};
 use co_core_tree::{CoreFunc, FuncRole, GlobalInfo, SlotInfo};
 use co_core_types::{
-    Known, View, is_number, is_place_of, is_reference, is_same_head, is_some_number_type,
-    result_gives,
+    Known, View, is_number, is_place_of, is_reference, is_some_number_type, result_gives,
 };
-use co_types::{ClassInfo, ClassTable, CoType, FieldInfo, FuncInfo, Head};
+use co_types::{ClassInfo, ClassTable, CoType, FieldInfo, FuncInfo, Head, has_same_head};
 use sqlite_items::at;
 
 /// The slot of this number.
@@ -139,7 +138,7 @@ fn constructs_head(role: &FuncRole, head: Head) -> bool
     ensures { result ≡ spec.constructs_head role.now head }
 {
     match role {
-        FuncRole::Ctor(class, _) => is_same_head(head, Head::Class(*class)),
+        FuncRole::Ctor(class, _) => has_same_head(head, Head::Class(*class)),
         FuncRole::Plain | FuncRole::Dtor(_) => false,
     }
 }
@@ -170,7 +169,7 @@ fn is_class_target(class: ClassId, of: &CoType) -> bool
     ensures { result ≡ spec.is_class_target class (target_of of.now) }
 {
     match of.target() {
-        Some(to) => is_same_head(to.head(), Head::Class(class)),
+        Some(to) => has_same_head(to.head(), Head::Class(class)),
         None => false,
     }
 }

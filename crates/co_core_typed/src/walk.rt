@@ -2,12 +2,12 @@ ghost use Rattle.std.specs.Prelude.{◌≡◌, ◌&&◌, false, map};
 ghost use Rattle.std.specs.Option.{option_copied};
 ghost use Rattle.std.specs.List.{list_all};
 ghost use Rattle.co_types.specs.Types.{head_of};
-ghost use Rattle.co_core_types.specs.Forms as form;
-ghost use Rattle.co_core_types.specs.Gives as give;
+ghost use Rattle.co_core_typing.specs.Forms as form;
+ghost use Rattle.co_core_typing.specs.Gives as give;
 ghost use Rattle.co_core_types.specs.Seen.{known_type, seen};
-ghost use Rattle.co_core_typed.specs.Rules.{await_typed, gives, typed, init_typed, arguments_typed, members_typed, has_members, inside, fields_of_head};
+ghost use Rattle.co_core_typing.specs.Rules.{await_typed, gives, typed, init_typed, arguments_typed, members_typed, has_members, inside, fields_of_head};
 ghost use Rattle.co_core_typed.specs.Seen.{wholes_of};
-ghost use Rattle.co_core_typed.specs.Tables as table;
+ghost use Rattle.co_core_typing.specs.Tables as table;
 
 use crate::checked::{
     Checked, address, arith, awaited, chosen, convert, delete, deref, exchange, field, given,

@@ -1,5 +1,5 @@
 ghost use Rattle.std.specs.Prelude.{◌≡◌, slice_get};
-ghost use Rattle.co_core_types.specs.Gives as give;
+ghost use Rattle.co_core_typing.specs.Gives as give;
 ghost use Rattle.co_core_types.specs.Seen.{seen};
 ghost use Rattle.co_core_typed.specs.Seen.{wholes_of};
 

@@ -7,7 +7,7 @@ use Rattle.co_core_types.specs.declared.views.Known.TheVariants as known
 use Rattle.co_core_types.specs.declared.views.Kind.{Kind}
 use Rattle.co_core_types.specs.declared.views.View.{View}
 use Rattle.co_core_types.specs.declared.views.View.TheVariants as view
-use Rattle.co_core_types.specs.Gives.{Shape, Gives, Place, Value, Nothing, Throws, Wrong}
+use Rattle.co_core_typing.specs.Gives.{Shape, Gives, Place, Value, Nothing, Throws, Wrong}
 
 abbrev pub known_type : Known → CoType
 known_type (known.Of of) = of.now

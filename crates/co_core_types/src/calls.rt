@@ -1,5 +1,5 @@
 ghost use Rattle.std.specs.Prelude.{◌≡◌, [], ◌∷◌};
-ghost use Rattle.co_core_types.specs.Forms as spec;
+ghost use Rattle.co_core_typing.specs.Forms as spec;
 ghost use Rattle.co_core_types.specs.Seen.{seen, seen_shape};
 
 use crate::forms::class_place;

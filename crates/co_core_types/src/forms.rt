@@ -1,7 +1,7 @@
 ghost use Rattle.std.specs.Prelude.{◌≡◌};
 ghost use Rattle.std.specs.Option.{option_map};
-ghost use Rattle.co_core_types.specs.Gives as give;
-ghost use Rattle.co_core_types.specs.Forms as spec;
+ghost use Rattle.co_core_typing.specs.Gives as give;
+ghost use Rattle.co_core_typing.specs.Forms as spec;
 ghost use Rattle.co_core_types.specs.Seen.{known_type, seen, seen_shape};
 
 use crate::views::{

@@ -19,6 +19,6 @@ pub use objects::{
     await_fits, choose_fits, delete_fits, is_object, is_raw, result_fits, value_fits,
 };
 pub use views::{
-    Kind, Known, View, is_number, is_place_of, is_reference, is_right, is_same_head, is_same_known,
+    Kind, Known, View, is_number, is_place_of, is_reference, is_right, is_same_known,
     is_some_number, is_void, number, plain_kind, pointer_kind, truth, value_converts,
 };

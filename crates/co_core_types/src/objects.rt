@@ -1,16 +1,16 @@
 ghost use Rattle.std.specs.Prelude.{◌≡◌};
 ghost use Rattle.std.specs.Option.{option_copied};
-ghost use Rattle.co_core_types.specs.Forms as spec;
+ghost use Rattle.co_core_typing.specs.Forms as spec;
 ghost use Rattle.co_core_types.specs.Seen.{known_type, seen};
 
 use crate::calls::is_handle_value;
 use crate::views::{
-    Known, View, is_number, is_place_of, is_place_of_target, is_reference, is_same_head,
-    is_same_kind, plain, pointer_kind, value_converts,
+    Known, View, is_number, is_place_of, is_place_of_target, is_reference, is_same_kind, plain,
+    pointer_kind, value_converts,
 };
 use co_base::Num;
 use co_core_tree::{Answer, SlotInfo, SlotKind};
-use co_types::{CoType, Head};
+use co_types::{CoType, Head, has_same_head};
 
 /// Whether a type has objects.
 pub fn is_object(head: Head) -> bool
@@ -89,7 +89,7 @@ pub fn result_fits(to: Head, view: View<'_>) -> bool
     ensures { result ≡ spec.result_fits to (seen view.entry) }
 {
     match view {
-        View::Value(of) => is_class_of(to) && is_same_head(of.head, to),
+        View::Value(of) => is_class_of(to) && has_same_head(of.head, to),
         _ => false,
     }
 }
@@ -114,7 +114,7 @@ fn holds(kind: SlotKind, of: &CoType, temp: bool, operand: View<'_>) -> bool
 fn holds_reference(of: &CoType, operand: View<'_>) -> bool
     ensures { result ≡ spec.holds_reference of.now (seen operand.entry) }
 {
-    is_same_head(of.head(), Head::Ref) && is_place_of_target(Known::Of(of).target(), operand)
+    has_same_head(of.head(), Head::Ref) && is_place_of_target(Known::Of(of).target(), operand)
 }
 
 fn holder_fits(holder: Option<&SlotInfo>, temp: bool, operand: View<'_>) -> bool

@@ -1,11 +1,11 @@
 ghost use Rattle.std.specs.Prelude.{◌≡◌, ◌<◌};
 ghost use Rattle.std.specs.Option.{option_map};
-ghost use Rattle.co_types.specs.Types.{head_of, target_of, same_atomic, same_head, same_num, same_type};
-ghost use Rattle.co_core_types.specs.Gives as spec;
+ghost use Rattle.co_types.specs.Types.{head_of, target_of, same_type};
+ghost use Rattle.co_core_typing.specs.Gives as spec;
 ghost use Rattle.co_core_types.specs.Seen.{known_type, seen, seen_shape};
 
 use co_base::{AtomicKind, ClassId, Num};
-use co_types::{CoType, Head, is_same};
+use co_types::{CoType, Head, has_same_head, is_same, is_same_num};
 
 /// A type that stands in the tree or in a table, or one that does not.
 #[derive(Clone, Copy)]
@@ -31,53 +31,6 @@ pub enum View<'a> {
     Nothing,
     Throws,
     Wrong,
-}
-
-pub fn is_same_num(a: Num, b: Num) -> bool
-    ensures { result ≡ same_num a b }
-{
-    match (a, b) {
-        (Num::Bool, Num::Bool) => true,
-        (Num::Int, Num::Int) => true,
-        (Num::Long, Num::Long) => true,
-        (Num::Size, Num::Size) => true,
-        _ => false,
-    }
-}
-
-fn is_same_atomic(a: AtomicKind, b: AtomicKind) -> bool
-    ensures { result ≡ same_atomic a b }
-{
-    match (a, b) {
-        (AtomicKind::Int, AtomicKind::Int) => true,
-        (AtomicKind::Long, AtomicKind::Long) => true,
-        (AtomicKind::Bool, AtomicKind::Bool) => true,
-        (AtomicKind::VoidPointer, AtomicKind::VoidPointer) => true,
-        _ => false,
-    }
-}
-
-/// Whether two types are so but for what they point or refer to.
-pub fn is_same_head(a: Head, b: Head) -> bool
-    ensures { result ≡ same_head a b }
-{
-    match (a, b) {
-        (Head::Void, Head::Void) => true,
-        (Head::Num(x), Head::Num(y)) => is_same_num(x, y),
-        (Head::Class(x), Head::Class(y)) => x.0 == y.0,
-        (Head::Pointer, Head::Pointer) => true,
-        (Head::Ref, Head::Ref) => true,
-        (Head::ConstRef, Head::ConstRef) => true,
-        (Head::RefRef, Head::RefRef) => true,
-        (Head::Handle(None), Head::Handle(None)) => true,
-        (Head::Handle(Some(x)), Head::Handle(Some(y))) => x.0 == y.0,
-        (Head::Atomic(x), Head::Atomic(y)) => is_same_atomic(x, y),
-        (Head::ExceptionPtr, Head::ExceptionPtr) => true,
-        (Head::SuspendAlways, Head::SuspendAlways) => true,
-        (Head::SuspendNever, Head::SuspendNever) => true,
-        (Head::NullPtr, Head::NullPtr) => true,
-        _ => false,
-    }
 }
 
 impl<'a> Known<'a> {
@@ -120,10 +73,10 @@ pub fn is_same_known(a: Known<'_>, b: Known<'_>) -> bool
 {
     match (a, b) {
         (Known::Of(x), Known::Of(y)) => is_same(x, y),
-        (Known::Class(_), _) => is_same_head(a.head(), b.head()),
-        (Known::Void, _) => is_same_head(a.head(), b.head()),
-        (Known::Of(_), Known::Class(_)) => is_same_head(a.head(), b.head()),
-        (Known::Of(_), Known::Void) => is_same_head(a.head(), b.head()),
+        (Known::Class(_), _) => has_same_head(a.head(), b.head()),
+        (Known::Void, _) => has_same_head(a.head(), b.head()),
+        (Known::Of(_), Known::Class(_)) => has_same_head(a.head(), b.head()),
+        (Known::Of(_), Known::Void) => has_same_head(a.head(), b.head()),
     }
 }
 
@@ -140,7 +93,7 @@ fn is_same_target(a: Option<Known<'_>>, b: Option<Known<'_>>) -> bool
 pub fn is_same_kind(a: Kind<'_>, b: Kind<'_>) -> bool
     ensures { result ≡ spec.same_shape (seen_shape a.entry) (seen_shape b.entry) }
 {
-    is_same_head(a.head, b.head) && is_same_target(a.target, b.target)
+    has_same_head(a.head, b.head) && is_same_target(a.target, b.target)
 }
 
 pub fn plain_kind<'a>(head: Head) -> Kind<'a>
@@ -269,7 +222,7 @@ fn widens(from: Head, to: Kind<'_>) -> bool
     match from {
         Head::NullPtr => is_nullable(to.head),
         Head::Pointer => is_address(to),
-        Head::Handle(_) => is_same_head(to.head, Head::Handle(None)),
+        Head::Handle(_) => has_same_head(to.head, Head::Handle(None)),
         _ => false,
     }
 }

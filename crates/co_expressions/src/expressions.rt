@@ -1,13 +1,12 @@
 //! Expressions, by the next token; operators between operands by precedence [expr].
 
 ghost use Rattle.std.specs.Prelude.{◌≡◌, ◌≤◌, IfOk};
-ghost use Rattle.co_grammar.specs.Names.{holds};
+ghost use Rattle.co_rules.specs.Names.{holds};
 ghost use Rattle.co_reader.specs.Reading.{Reads};
 ghost use Rattle.co_expressions.specs.Expressions as spec;
 ghost use Rattle.co_expressions.specs.Nests.{Nests};
 
 use co_base::Span;
-use co_grammar::ClassNames;
 use co_lex::{Mark, Word};
 use co_reader::{
     Cursor, Lead, ReadFault, assignment_operator, begins_expression, binary_operator, builtin,
@@ -15,6 +14,7 @@ use co_reader::{
     member_operator, names_class, opening, path, run_function, simple_type, stars, step_operator,
     strength_of, type_id, unary_operator,
 };
+use co_rules::ClassNames;
 use co_tree::{Expression, HandleFunction, SimpleType, SimpleTypeKind};
 use sqlite_items::{Boxed, Items};
 use std::alloc::Global;

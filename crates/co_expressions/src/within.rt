@@ -1,15 +1,15 @@
 //! What the rules above expressions take of them.
 
-ghost use Rattle.co_grammar.specs.Names.{holds};
+ghost use Rattle.co_rules.specs.Names.{holds};
 ghost use Rattle.co_reader.specs.Reading.{Reads};
 ghost use Rattle.co_expressions.specs.Expressions.{expression};
 ghost use Rattle.co_expressions.specs.Expressions as spec;
 
 use crate::expressions::{Grammar, expression};
 use co_base::Span;
-use co_grammar::ClassNames;
 use co_lex::Mark;
 use co_reader::{Cursor, ReadFault};
+use co_rules::ClassNames;
 use co_tree::{Expression, SimpleType};
 use sqlite_items::Items;
 use std::alloc::Global;

@@ -5,10 +5,10 @@ use Rattle.co_rules.specs.declared.symbol.Pattern.{Pattern}
 use Rattle.co_rules.specs.declared.symbol.Terminal.{Terminal}
 use Rattle.co_rules.specs.Derives.{Derives}
 use Rattle.co_grammar.specs.Laws.{IsFile, IsBegun, IsShallow, depths, AcceptsFiles, SyntaxIsFirst, DepthIsFirst, StepsAreExact, IsStep, reached, reached_on}
-use Rattle.co_grammar.specs.Names.{classes, has_some}
+use Rattle.co_rules.specs.Names.{classes, has_some}
 use Rattle.co_rules.specs.Rule.{start}
 use Rattle.co_grammar.specs.Scan.{scanned}
-use Rattle.co_grammar.specs.Terminal.{terminal_of, terminals}
+use Rattle.co_rules.specs.Terminal.{terminal_of, terminals}
 use Rattle.co_grammar.specs.Machine.{step}
 use Rattle.co_grammar.proofs.Live.{completed}
 use Rattle.co_grammar.proofs.Picks.{none_some, some_same}

@@ -12,9 +12,9 @@ use Rattle.co_rules.specs.declared.symbol.Known.TheVariants as known_name
 use Rattle.co_rules.specs.declared.symbol.Pattern.{Pattern}
 use Rattle.co_rules.specs.declared.symbol.Pattern.TheVariants as pattern
 use Rattle.co_rules.specs.declared.symbol.Terminal.TheVariants as terminal
-use Rattle.co_grammar.specs.Names.{known, is_class, has_some, named, introduces, classes_from}
+use Rattle.co_rules.specs.Names.{known, is_class, has_some, named, introduces, classes_from}
 use Rattle.co_rules.specs.Pattern.{admits, is_plain, word_number, mark_number, known_number}
-use Rattle.co_grammar.specs.Terminal.{terminal_of, terminals}
+use Rattle.co_rules.specs.Terminal.{terminal_of, terminals}
 use Rattle.co_grammar.proofs.Live.{Suits, is_class_name}
 use Rattle.co_grammar.proofs.Lives.{fits_classes}
 use Rattle.co_rules.proofs.Sets.{never, true_eq, or_left}

@@ -1,6 +1,5 @@
 mod Appends
 mod Bounds
-mod Classes
 pub mod Exact
 pub mod Examples
 pub mod Fits

@@ -19,7 +19,7 @@ use Rattle.co_rules.proofs.Sets.{never, true_eq, and_split, none_in-in, apart-Ap
 use Rattle.co_grammar.specs.Laws.{NearestIfRefusesNone}
 use Rattle.co_grammar.specs.Loose as l
 use Rattle.co_grammar.specs.Loose.{Loosely}
-use Rattle.co_grammar.specs.Terminal.{terminals}
+use Rattle.co_rules.specs.Terminal.{terminals}
 use Rattle.co_grammar.proofs.Fits.{nothing, Fits, fits-Fits, fits-append, derives-first, start-fits}
 use Rattle.co_grammar.proofs.Picks.{and_true, begins-fits, covers-admits}
 

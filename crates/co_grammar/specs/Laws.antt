@@ -8,10 +8,10 @@ use Rattle.co_rules.specs.declared.symbol.Terminal.{Terminal}
 use Rattle.co_rules.specs.Derives.{Derives}
 use Rattle.co_grammar.specs.Loose.{Loosely}
 use Rattle.co_grammar.specs.Machine.{step, levels}
-use Rattle.co_grammar.specs.Names.{classes, has_some}
+use Rattle.co_rules.specs.Names.{classes, has_some}
 use Rattle.co_rules.specs.Rule.{start}
 use Rattle.co_grammar.specs.Scan.{scanned}
-use Rattle.co_grammar.specs.Terminal.{terminal_of, terminals}
+use Rattle.co_rules.specs.Terminal.{terminal_of, terminals}
 
 -- the tokens are a file, where these are the names of classes
 abbrev pub IsFile : List (List ℕ) → List Token → Type 0

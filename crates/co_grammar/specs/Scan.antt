@@ -7,9 +7,9 @@ use Rattle.co_grammar.specs.declared.scanner.TheConstants.{MOST_LEVELS}
 use Rattle.co_rules.specs.declared.symbol.Symbol.{Symbol}
 use Rattle.co_rules.specs.declared.symbol.Terminal.{Terminal}
 use Rattle.co_grammar.specs.Machine.{step, levels}
-use Rattle.co_grammar.specs.Names.{classes, has_some}
+use Rattle.co_rules.specs.Names.{classes, has_some}
 use Rattle.co_rules.specs.Rule.{start}
-use Rattle.co_grammar.specs.Terminal.{terminals}
+use Rattle.co_rules.specs.Terminal.{terminals}
 
 -- the end of the terminals: the file has ended too, or the next token, of which there is none, is no part of one
 abbrev pub ended : ℕ → List Symbol → Result (Unit {0}) Fault
@@ -38,7 +38,7 @@ Reads (Err (TooDeep place)) at told = (more : List Symbol → Result (Unit {0}) 
 Reads (Err NoMemory) at told = Unit {0}
 
 -- what the code answers is what is defined, unless memory ran out
-abbrev pub Gives : Result (Unit {0}) Fault → Result (Unit {0}) Fault → Type 0
+abbrev pub Gives : {A : Type 0} → Result A Fault → Result (Unit {0}) Fault → Type 0
 Gives (Ok a) told = told ≡ Ok tt
 Gives (Err (Syntax at)) told = told ≡ Err (Syntax at)
 Gives (Err (TooDeep at)) told = told ≡ Err (TooDeep at)

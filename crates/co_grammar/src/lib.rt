@@ -4,10 +4,8 @@
 mod fault;
 mod laws;
 mod machine;
-mod names;
 mod scanner;
 mod stack;
-mod terminal;
 #[cfg(test)]
 mod tests;
 
@@ -16,7 +14,5 @@ pub use laws::{
     accepts_files, depth_is_first, nearest_if_refuses_none, steps_are_exact, syntax_is_first,
 };
 pub use machine::{body_for, step};
-pub use names::{ClassNames, class_names};
 pub use scanner::{MOST_LEVELS, scan};
 pub use stack::Stack;
-pub use terminal::terminal_of;

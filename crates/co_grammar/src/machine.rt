@@ -5,9 +5,7 @@ ghost use Rattle.co_grammar.specs.Machine as spec;
 ghost use Rattle.co_rules.specs.Rule.{rule, in_file, in_class, in_type, in_statement, in_head, in_local, in_value, in_argument, in_unary, in_operand, from_file, from_class, from_type, from_statement, from_head, from_local, from_value, from_argument, from_unary};
 
 use crate::fault::Fault;
-use crate::names::class_names;
 use crate::stack::Stack;
-use crate::terminal::terminal_of;
 use co_base::NoMemory;
 use co_lex::Token;
 use co_rules::{

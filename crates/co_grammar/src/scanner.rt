@@ -1,16 +1,15 @@
 ghost use Rattle.std.specs.Prelude.{◌≡◌, IfOk, IfErr};
+ghost use Rattle.co_rules.specs.Names.{Knows, classes};
 ghost use Rattle.co_grammar.specs.Machine.{step};
 ghost use Rattle.co_rules.specs.Rule.{start};
 ghost use Rattle.co_grammar.specs.Scan as spec;
 
 use crate::fault::Fault;
 use crate::machine::step;
-use crate::names::class_names;
 use crate::stack::Stack;
-use crate::terminal::terminal_of;
 use co_base::NoMemory;
 use co_lex::Token;
-use co_rules::{Nonterminal, Pattern, Symbol, Terminal};
+use co_rules::{ClassNames, Nonterminal, Pattern, Symbol, Terminal, class_names, terminal_of};
 use std::alloc::Global;
 
 /// How many nesting levels may be open [implimits].
@@ -50,7 +49,7 @@ fn finish(at: usize, stack: &Stack) -> Result<(), Fault>
     }
 }
 
-/// Whether the tokens, the last one `End`, are a file of the language.
+/// The names of the classes, where the tokens, the last one `End`, are a file of the language.
 ///
 /// # Errors
 ///
@@ -59,8 +58,9 @@ fn finish(at: usize, stack: &Stack) -> Result<(), Fault>
 /// `TooDeep` with the first token after which more than 200 nesting levels are open. The earlier of the two decides, and
 /// `Syntax` at one token. `NoMemory` where memory runs out.
 #[tactic(auto, unfolding(crate::specs::Scan::scanned))]
-pub fn scan(alloc: Global, tokens: &[Token]) -> Result<(), Fault>
-    ensures { spec.Gives result (spec.scanned tokens.now) }
+pub fn scan(alloc: Global, tokens: &[Token]) -> Result<ClassNames, Fault>
+    ensures answer { spec.Gives result (spec.scanned tokens.now) }
+    ensures classes { IfOk result (λ c. Knows c (classes tokens.now)) }
 {
     let classes = class_names(alloc, tokens)?;
     let mut stack = started(alloc)?;
@@ -70,5 +70,6 @@ pub fn scan(alloc: Global, tokens: &[Token]) -> Result<(), Fault>
         stack = read(classes.has_some(), terminal, at, stack)?;
         at += 1;
     }
-    finish(at, &stack)
+    finish(at, &stack)?;
+    Ok(classes)
 }

@@ -493,7 +493,7 @@ fn told(alloc: Global, text: &[u8]) -> Result<String, Fail> {
         return Ok(format!(in alloc; "no tokens")?);
     };
     match scan(alloc, tokens.as_slice()) {
-        Ok(()) => Ok(format!(in alloc; "file")?),
+        Ok(_classes) => Ok(format!(in alloc; "file")?),
         Err(Fault::Syntax(at)) => place(alloc, "S1", tokens.as_slice(), at),
         Err(Fault::TooDeep(at)) => place(alloc, "Q1", tokens.as_slice(), at),
         Err(Fault::NoMemory) => Ok(format!(in alloc; "no memory")?),

@@ -5,8 +5,8 @@ use Rattle.std.specs.Borrow.{Bor}
 use denote.Ref.{MutBor}
 use Rattle.co_lex.specs.declared.token.Token.{Token}
 use Rattle.co_tree.specs.declared.declarations.MemberDeclaration.{MemberDeclaration}
-use Rattle.co_grammar.specs.declared.names.ClassNames.{ClassNames}
-use Rattle.co_grammar.specs.Names.{holds}
+use Rattle.co_rules.specs.declared.names.ClassNames.{ClassNames}
+use Rattle.co_rules.specs.Names.{holds}
 use Rattle.co_reader.specs.declared.fault.ReadFault.{ReadFault}
 use Rattle.co_reader.specs.Reading.{Reads}
 use Rattle.co_parse.specs.Declarations.{member}

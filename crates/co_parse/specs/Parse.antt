@@ -4,7 +4,7 @@ use Rattle.co_base.specs.declared.span.Span.{Span}
 use Rattle.co_lex.specs.declared.token.Token.{Token}
 use Rattle.co_grammar.specs.declared.fault.Fault.{Fault}
 use Rattle.co_grammar.specs.declared.fault.Fault.TheVariants as fault
-use Rattle.co_grammar.specs.Names.{classes, is_class}
+use Rattle.co_rules.specs.Names.{classes, is_class}
 use Rattle.co_grammar.specs.Scan.{scanned}
 use Rattle.co_tree.specs.declared.declarations.Declaration.{Declaration}
 use Rattle.co_tree.specs.declared.declarations.Tree.{Tree}

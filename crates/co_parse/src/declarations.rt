@@ -1,7 +1,7 @@
 //! Globals, functions and the members of a class other than classes, by the next token [dcl.dcl] [class.mem].
 
 ghost use Rattle.std.specs.Prelude.{◌≡◌};
-ghost use Rattle.co_grammar.specs.Names.{holds};
+ghost use Rattle.co_rules.specs.Names.{holds};
 ghost use Rattle.co_reader.specs.Reading.{Reads};
 ghost use Rattle.co_expressions.specs.Expressions.{expression};
 ghost use Rattle.co_parse.specs.Declarations as spec;

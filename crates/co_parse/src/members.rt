@@ -1,7 +1,7 @@
 //! Classes, and the declarations of a file [class.pre] [basic.link].
 
 ghost use Rattle.std.specs.Prelude.{◌≡◌};
-ghost use Rattle.co_grammar.specs.Names.{holds};
+ghost use Rattle.co_rules.specs.Names.{holds};
 ghost use Rattle.co_reader.specs.Reading.{Reads};
 ghost use Rattle.co_parse.specs.Declarations as spec;
 ghost use Rattle.co_parse.specs.NestsMembers.{NestsMembers};
@@ -9,9 +9,9 @@ ghost use Rattle.co_parse.specs.NestsMembers.{NestsMembers};
 use crate::declarations::{alias, global_item, simple_member};
 use co_base::Span;
 use co_expressions::Within;
-use co_grammar::ClassNames;
 use co_lex::{Mark, Word};
 use co_reader::{Cursor, Lead, ReadFault};
+use co_rules::ClassNames;
 use co_tree::{ClassDefinition, ClassKey, Declaration, ForwardDeclaration, MemberDeclaration};
 use sqlite_items::Items;
 use std::alloc::Global;

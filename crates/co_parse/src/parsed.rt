@@ -1,14 +1,15 @@
 ghost use Rattle.std.specs.Prelude.{◌≡◌};
-ghost use Rattle.co_grammar.specs.Names.{holds};
+ghost use Rattle.co_rules.specs.Names.{holds};
 ghost use Rattle.co_parse.specs.Parse as spec;
 
 use crate::fault::ParseFault;
 use crate::members::{declarations, is_end};
 use co_base::Span;
 use co_expressions::Within;
-use co_grammar::{ClassNames, Fault, class_names, scan};
+use co_grammar::{Fault, scan};
 use co_lex::Token;
 use co_reader::{Cursor, ReadFault};
+use co_rules::ClassNames;
 use co_tree::Tree;
 use sqlite_items::at;
 use std::alloc::Global;
@@ -72,10 +73,7 @@ pub fn parse(alloc: Global, tokens: &[Token]) -> Result<Tree, ParseFault>
     ensures { spec.Gives result (spec.parsed tokens.now) }
 {
     match scan(alloc, tokens) {
-        Ok(()) => {
-            let classes = class_names(alloc, tokens)?;
-            built(alloc, &classes, tokens)
-        }
+        Ok(classes) => built(alloc, &classes, tokens),
         Err(fault) => Err(placed(tokens, fault)),
     }
 }

@@ -1,5 +1,5 @@
 ghost use Rattle.std.specs.Prelude.{◌≡◌, ◌≤◌, false};
-ghost use Rattle.co_grammar.specs.Names.{holds};
+ghost use Rattle.co_rules.specs.Names.{holds};
 ghost use Rattle.co_reader.specs.Reading.{Reads};
 ghost use Rattle.co_reader.specs.Types as spec;
 
@@ -8,8 +8,8 @@ use crate::fault::ReadFault;
 use crate::lead::Lead;
 use crate::leads::{builtin, library_object};
 use co_base::{AtomicKind, Span, Text};
-use co_grammar::ClassNames;
 use co_lex::{Mark, Word};
+use co_rules::ClassNames;
 use co_tree::{Path, Reference, SimpleType, SimpleTypeKind, TypeId};
 use sqlite_items::Items;
 use std::alloc::Global;

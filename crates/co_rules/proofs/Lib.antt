@@ -4,3 +4,4 @@ pub mod Places
 pub mod Sets
 pub mod Tested
 pub mod Unique
+pub mod Classes

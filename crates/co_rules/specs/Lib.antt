@@ -2,3 +2,5 @@ pub mod Derives
 pub mod Laws
 pub mod Pattern
 pub mod Rule
+pub mod Names
+pub mod Terminal

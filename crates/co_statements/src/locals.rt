@@ -1,7 +1,7 @@
 //! Locals, and the statements that an expression or the type of a local begins [stmt.expr] [stmt.dcl].
 
 ghost use Rattle.std.specs.Prelude.{◌≡◌};
-ghost use Rattle.co_grammar.specs.Names.{holds};
+ghost use Rattle.co_rules.specs.Names.{holds};
 ghost use Rattle.co_reader.specs.Reading.{Reads};
 ghost use Rattle.co_expressions.specs.Expressions.{expression};
 ghost use Rattle.co_statements.specs.Statements as spec;

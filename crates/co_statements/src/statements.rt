@@ -1,7 +1,7 @@
 //! Statements, by the next token [stmt.stmt].
 
 ghost use Rattle.std.specs.Prelude.{◌≡◌};
-ghost use Rattle.co_grammar.specs.Names.{holds};
+ghost use Rattle.co_rules.specs.Names.{holds};
 ghost use Rattle.co_reader.specs.Reading.{Reads};
 ghost use Rattle.co_expressions.specs.Expressions.{expression};
 ghost use Rattle.co_statements.specs.Statements as spec;
@@ -10,9 +10,9 @@ ghost use Rattle.co_statements.specs.NestsStatements.{NestsStatements};
 use crate::locals::{caught, optional, returned, short};
 use co_base::Span;
 use co_expressions::Within;
-use co_grammar::ClassNames;
 use co_lex::{Mark, Word};
 use co_reader::{Cursor, Lead, ReadFault};
+use co_rules::ClassNames;
 use co_tree::{Block, Expression, ForInit, Handler, Statement};
 use sqlite_items::{Boxed, Items};
 use std::alloc::Global;

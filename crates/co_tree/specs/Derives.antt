@@ -4,8 +4,6 @@ use Rattle.std.specs.Option.{option_map}
 use Rattle.co_base.specs.declared.span.Span.{Span}
 use Rattle.co_lex.specs.declared.token.Token.{Token}
 use Rattle.co_lex.specs.declared.token.TokenKind.{TokenKind}
-use Rattle.co_lex.specs.declared.token.TokenKind.TheVariants as kind
-use Rattle.co_lex.specs.declared.token.Word.TheVariants as word
 use Rattle.co_tree.specs.declared.declarations.Tree.{Tree}
 use Rattle.co_tree.specs.Piece.{Piece, token, line, node, opens, enter, leave}
 use Rattle.co_tree.specs.Declarations.{sentence_of}
@@ -67,22 +65,3 @@ too_deep_from limit levels (node at ∷ ps) = too_deep_from limit levels ps
 -- the number of the token that opens level 201, counted from 0
 abbrev pub too_deep : Tree → Option ℕ
 too_deep tree = too_deep_from 200 [] (sentence_of tree)
-
--- ---- the names of classes
-
--- a token after which a name is that of a class
-abbrev pub is_class_key : TokenKind → Bool
-is_class_key (kind.Word word.Struct) = true
-is_class_key (kind.Word word.Class) = true
-is_class_key (kind.Word word.Using) = true
-is_class_key k = false
-
--- the name that the tokens begin with
-abbrev pub first_name : List TokenKind → List (List ℕ)
-first_name (kind.Name n ∷ ks) = n ∷ []
-first_name ks = []
-
--- the names right after `struct`, `class` or `using`
-abbrev pub classes : List TokenKind → List (List ℕ)
-classes [] = []
-classes (k ∷ ks) = (if is_class_key k then first_name ks else []) ++ classes ks

@@ -18,4 +18,4 @@ pub use members::{Found, find_member};
 pub use overloads::{Arg, ArgKind, Choice, Rank, choose, conversion};
 pub use specials::{Specials, special};
 pub use table::ClassTable;
-pub use types::{CoType, Head, is_same};
+pub use types::{CoType, Head, has_same_head, is_same, is_same_num};

@@ -134,7 +134,8 @@ impl CoType {
     }
 }
 
-fn is_same_num(a: Num, b: Num) -> bool
+/// Whether two kinds of numbers are one kind.
+pub fn is_same_num(a: Num, b: Num) -> bool
     ensures { result ≡ same_num a b }
 {
     match (a, b) {
@@ -158,7 +159,8 @@ fn is_same_atomic(a: AtomicKind, b: AtomicKind) -> bool
     }
 }
 
-pub(crate) fn has_same_head(a: Head, b: Head) -> bool
+/// Whether two types are so but for what they point or refer to.
+pub fn has_same_head(a: Head, b: Head) -> bool
     ensures { result ≡ same_head a b }
 {
     match (a, b) {

@@ -1,6 +1,6 @@
 use Rattle.std.proofs.Common.{◌≡◌, length}
 use Rattle.std.specs.List.{list_any}
-use Rattle.co_core_typed.specs.Tables.{is_declared_special}
+use Rattle.co_core_typing.specs.Tables.{is_declared_special}
 use Rattle.co_core_typed.proofs.tables.declares_special.Given as goal
 
 abbrev pub invariant-loop-rest : goal.invariant-loop-rest

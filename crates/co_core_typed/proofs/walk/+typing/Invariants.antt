@@ -1,7 +1,7 @@
 use Rattle.std.proofs.Common.{◌≡◌, drop}
-use Rattle.co_core_typed.specs.Rules.{arguments_typed, members_typed}
+use Rattle.co_core_typing.specs.Rules.{arguments_typed, members_typed}
 use Rattle.co_core_typed.specs.Seen.{wholes_of}
-use Rattle.co_core_typed.specs.Tables.{types_of}
+use Rattle.co_core_typing.specs.Tables.{types_of}
 use Rattle.co_core_typed.proofs.walk.+typing.Given as goal
 
 abbrev pub invariant-arguments_fit-loop-arg : goal.invariant-arguments_fit-loop-arg

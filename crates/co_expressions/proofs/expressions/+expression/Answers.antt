@@ -1,5 +1,5 @@
 use Rattle.std.proofs.Common.{◌≡◌, ap, arith}
-use Rattle.co_grammar.specs.Names.{holds}
+use Rattle.co_rules.specs.Names.{holds}
 use Rattle.co_expressions.specs.Expressions.{expression}
 use Rattle.co_expressions.proofs.Turns.{deeper}
 use Rattle.co_expressions.proofs.expressions.+expression.Goals as goal

@@ -1,7 +1,7 @@
 use Rattle.std.proofs.Common.{◌≡◌, ◌-◌, ◌≤◌, length, drop}
-use Rattle.co_grammar.specs.Names.{classes, has_some}
+use Rattle.co_rules.specs.Names.{classes, has_some}
 use Rattle.co_grammar.specs.Scan.{scanned, scanned_from}
-use Rattle.co_grammar.specs.Terminal.{terminals}
+use Rattle.co_rules.specs.Terminal.{terminals}
 use Rattle.co_grammar.proofs.scanner.scan.Given as goal
 
 abbrev pub invariant-loop-at : goal.invariant-loop-at

@@ -1,5 +1,5 @@
 use Rattle.std.proofs.Common.{◌≡◌, ◌-◌}
-use Rattle.co_grammar.specs.Names.{holds}
+use Rattle.co_rules.specs.Names.{holds}
 use Rattle.co_parse.specs.Declarations.{more_parameters, parameters_from}
 use Rattle.co_parse.proofs.declarations.more_parameters.Given as goal
 

@@ -1,5 +1,5 @@
 use Rattle.std.proofs.Common.{◌≡◌, ap, arith}
-use Rattle.co_grammar.specs.Names.{holds}
+use Rattle.co_rules.specs.Names.{holds}
 use Rattle.co_parse.specs.Declarations.{member}
 use Rattle.co_parse.proofs.Turns.{deeper}
 use Rattle.co_parse.proofs.members.+member.Goals as goal

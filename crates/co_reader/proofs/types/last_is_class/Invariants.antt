@@ -1,5 +1,5 @@
 use Rattle.std.proofs.Common.{◌≡◌, false, length}
-use Rattle.co_grammar.specs.Names.{holds}
+use Rattle.co_rules.specs.Names.{holds}
 use Rattle.co_reader.specs.Types.{last_is_class}
 use Rattle.co_reader.proofs.types.last_is_class.Given as goal
 

@@ -1,5 +1,5 @@
 use Rattle.std.proofs.Common.{◌≡◌, ap, arith}
-use Rattle.co_grammar.specs.Names.{holds}
+use Rattle.co_rules.specs.Names.{holds}
 use Rattle.co_statements.specs.Statements.{statement}
 use Rattle.co_statements.proofs.Turns.{deeper}
 use Rattle.co_statements.proofs.statements.+statement.Goals as goal

@@ -1,6 +1,6 @@
 use Rattle.std.proofs.Common.{rules, arith}
 use Rattle.std.proofs.lemmas.Grind.{common_steps}
-use Rattle.co_grammar.specs.Names.{holds}
+use Rattle.co_rules.specs.Names.{holds}
 use Rattle.co_expressions.specs.Expressions.{expression, operations, operations_from}
 use Rattle.co_expressions.proofs.Turns.{one_more, no_more}
 use Rattle.co_expressions.proofs.expressions.Grammar.operations.Goals as goal

@@ -1,5 +1,5 @@
 use Rattle.std.proofs.Common.{◌≡◌, ◌-◌}
-use Rattle.co_grammar.specs.Names.{holds}
+use Rattle.co_rules.specs.Names.{holds}
 use Rattle.co_expressions.specs.Expressions.{expression, operations, operations_from}
 use Rattle.co_expressions.proofs.expressions.Grammar.operations.Given as goal
 

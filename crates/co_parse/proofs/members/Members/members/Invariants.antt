@@ -1,5 +1,5 @@
 use Rattle.std.proofs.Common.{◌≡◌, ◌-◌}
-use Rattle.co_grammar.specs.Names.{holds}
+use Rattle.co_rules.specs.Names.{holds}
 use Rattle.co_parse.specs.Declarations.{member}
 use Rattle.co_parse.specs.Declarations.{members, members_from}
 use Rattle.co_parse.proofs.members.Members.members.Given as goal

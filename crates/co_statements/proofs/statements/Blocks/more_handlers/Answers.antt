@@ -1,6 +1,6 @@
 use Rattle.std.proofs.Common.{rules, arith}
 use Rattle.std.proofs.lemmas.Grind.{common_steps}
-use Rattle.co_grammar.specs.Names.{holds}
+use Rattle.co_rules.specs.Names.{holds}
 use Rattle.co_expressions.specs.Expressions.{expression}
 use Rattle.co_statements.specs.Statements.{statement}
 use Rattle.co_statements.specs.Statements.{more_handlers, handlers_from}

@@ -1,0 +1,4 @@
+pub mod Gives
+pub mod Forms
+pub mod Tables
+pub mod Rules

@@ -1,0 +1,2 @@
+//! The types that the parts of the core tree take and give, form by form.
+#![tactic(auto)]

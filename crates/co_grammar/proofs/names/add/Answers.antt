@@ -1,6 +1,0 @@
-use Rattle.std.proofs.Common.{refl}
-use Rattle.co_grammar.proofs.Classes.{gained}
-use Rattle.co_grammar.proofs.names.add.Goals as goal
-
-pub returns : goal.returns
-returns c = (gained _ (λ k. k.items) _ _ _ _ (λ x. refl) c.in_ok-insert.ensures.keys c.in_ok-name.ensures.items, refl)
