@@ -1,5 +1,6 @@
 -- How objects are made and how they end.
 use Rattle.std.specs.Prelude.{ℕ, zero, suc, Bool, true, false, ◌==◌, if◌then◌else◌, List, [], ◌∷◌, ◌++◌, slice_get, Option, None, Some}
+use Rattle.std.specs.Option.{option_map}
 use Rattle.co_base.specs.declared.ids.FuncId.{FuncId}
 use Rattle.co_base.specs.declared.span.Span.{Span}
 use Rattle.co_types.specs.declared.classes.FuncInfo.{FuncInfo}
@@ -45,31 +46,42 @@ unseen x = record { object = x; coroutine = None }
 
 -- ---- what is alive in the frames
 
+-- Where an object that lives has no place to stand there is no step: each frame below is looked at, the innermost first.
+
 -- the local stands in its block's scope from now on [stmt.block]
-abbrev pub into_scope : Alive → List Frame → List Frame
-into_scope x [] = []
-into_scope x (Scope alive rest ∷ fs) = Scope (x ∷ alive) rest ∷ fs
-into_scope x (f ∷ fs) = f ∷ into_scope x fs
+abbrev pub into_scope : Alive → List Frame → Option (List Frame)
+into_scope x [] = None
+into_scope x (Scope alive rest ∷ fs) = Some (Scope (x ∷ alive) rest ∷ fs)
+into_scope x (f ∷ fs) = option_map (λ gs. f ∷ gs) (into_scope x fs)
 
-abbrev pub made_temporaries : ℕ → Alive → List Temporal → List Temporal
-made_temporaries slot x [] = []
-made_temporaries slot x (t ∷ ts) = if t.slot == slot then record t { object = Some x } ∷ ts else t ∷ made_temporaries slot x ts
+abbrev pub made_of : Alive → Temporal → List Temporal → Option Alive → Option (List Temporal)
+made_of x t ts None = Some (record t { object = Some x } ∷ ts)
+made_of x t ts (Some y) = None
 
--- The temporary stands in its full-expression from now on. One that is made for `await_suspend` is the agent's own
--- [class.temporary].
-abbrev pub into_full : ℕ → Alive → List Frame → List Frame
-into_full slot x [] = []
-into_full slot x (Full ts ∷ fs) = Full (made_temporaries slot x ts) ∷ fs
-into_full slot x (AwaitSuspend plan into own ∷ fs) = AwaitSuspend plan into (x.object ∷ own) ∷ fs
-into_full slot x (f ∷ fs) = f ∷ into_full slot x fs
+-- a temporary is made once
+abbrev pub made_temporaries : ℕ → Alive → List Temporal → Option (List Temporal)
+made_temporaries slot x [] = None
+made_temporaries slot x (t ∷ ts) = if t.slot == slot then made_of x t ts t.object else option_map (λ us. t ∷ us) (made_temporaries slot x ts)
+
+abbrev pub own_with : Alive → List ℕ → Option ℕ → Option (List ℕ)
+own_with x own None = Some (x.object ∷ own)
+own_with x own (Some c) = None
+
+-- The temporary stands in its full-expression from now on. One that is made for `await_suspend` is the agent's own, and no class of
+-- the file [class.temporary].
+abbrev pub into_full : ℕ → Alive → List Frame → Option (List Frame)
+into_full slot x [] = None
+into_full slot x (Full ts ∷ fs) = option_map (λ us. Full us ∷ fs) (made_temporaries slot x ts)
+into_full slot x (AwaitSuspend plan into own ∷ fs) = option_map (λ xs. AwaitSuspend plan into xs ∷ fs) (own_with x own x.coroutine)
+into_full slot x (f ∷ fs) = option_map (λ gs. f ∷ gs) (into_full slot x fs)
 
 -- the parameter copy or the promise is alive from now on [dcl.fct.def.coroutine]
-abbrev pub into_hold : Alive → List Frame → List Frame
-into_hold x [] = []
-into_hold x (Holds hold ∷ fs) = Holds (record hold { alive = x ∷ hold.alive }) ∷ fs
-into_hold x (f ∷ fs) = f ∷ into_hold x fs
+abbrev pub into_hold : Alive → List Frame → Option (List Frame)
+into_hold x [] = None
+into_hold x (Holds hold ∷ fs) = Some (Holds (record hold { alive = x ∷ hold.alive }) ∷ fs)
+into_hold x (f ∷ fs) = option_map (λ gs. f ∷ gs) (into_hold x fs)
 
-abbrev pub stands : Spot → Alive → List Frame → List Frame
+abbrev pub stands : Spot → Alive → List Frame → Option (List Frame)
 stands InScope x fs = into_scope x fs
 stands (InFull slot) x fs = into_full slot x fs
 stands InHold x fs = into_hold x fs
@@ -86,11 +98,16 @@ set_mark slot (f ∷ fs) = f ∷ set_mark slot fs
 
 -- ---- the beginning of a lifetime [basic.life]
 
-abbrev pub standing_at : Alive → Spot → Local → Local
-standing_at x spot l = with_frames (stands spot x l.top.frames) l
+abbrev pub comes_on : Outcome → Local → Option (List Frame) → Option Turned
+comes_on outcome l None = None
+comes_on outcome l (Some fs) = goes (Comes outcome) (with_frames fs l)
+
+-- the object stands there, and this comes to the frame on top
+abbrev pub stands_and_comes : Alive → Spot → Outcome → Local → Option Turned
+stands_and_comes x spot outcome l = comes_on outcome l (stands spot x l.top.frames)
 
 abbrev pub born_in : Alive → Spot → Outcome → Local → Option ℕ → Option Turned
-born_in x spot outcome l None = goes (Comes outcome) (standing_at x spot l)
+born_in x spot outcome l None = stands_and_comes x spot outcome l
 born_in x spot outcome l (Some c) = goes (IsBorn x spot outcome) l
 
 -- The object is live from this step on. Where its birth is seen it is seen in the next one.
@@ -99,7 +116,7 @@ lives x spot outcome l = born_in x spot outcome (with_store (make_live x.object 
 
 abbrev pub birth : Alive → Spot → Outcome → Local → Option ℕ → Option Turned
 birth x spot outcome l None = None
-birth x spot outcome l (Some c) = goes (Comes outcome) (happens (event.Born c x.object) (standing_at x spot l))
+birth x spot outcome l (Some c) = stands_and_comes x spot outcome (happens (event.Born c x.object) l)
 
 -- the event of a birth
 abbrev pub is_born : Alive → Spot → Outcome → Local → Option Turned

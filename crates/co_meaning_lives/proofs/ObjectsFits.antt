@@ -2,27 +2,43 @@
 use Rattle.std.proofs.Common.{◌≡◌, ℕ, ◌+◌, ◌≤◌, List, [], ◌∷◌, Some, None, refl, ap, arith}
 use Rattle.std.specs.Prelude.{Option}
 use Rattle.co_base.specs.declared.ids.FuncId.{FuncId}
-use Rattle.co_meaning_data.specs.Frames.{Alive, Spot, At, Comes, Dies, Ending, Ends, EndsObject, EndsPart, HasDied, IsBorn, ObjectEnds, Outcome, PartEnds, Passes, PassesMark}
+use Rattle.co_meaning_data.specs.Frames.{Alive, Spot, At, Comes, Dies, Ending, Ends, EndsObject, Frame, EndsPart, HasDied, IsBorn, ObjectEnds, Outcome, PartEnds, Passes, PassesMark}
 use Rattle.co_meaning_data.specs.Store.{Place, end_object, end_part, make_live, type_at, whole}
-use Rattle.co_meaning_data.specs.Turn.{Local, classes, happens, nowhere, pushed, store, with_store}
-use Rattle.co_meaning_calls.specs.Objects.{standing_at, born_in, lives, birth, is_born, ends, dtor_of_type, call_with, end_object_by, end_whole, end_part_by, end_field, end_next, died_in, dies, has_died, abandon}
-use Rattle.co_meaning_lives.specs.Tokens.{Fits, alive_weighs, credits, endings_weigh, local_weighs, seen_weighs, weighs}
-use Rattle.co_meaning_lives.proofs.Weights.{make_live-count, end_object-count, end_part-count, same, splits, goes-fits, under-fits, passes-fits, events-add, counted, credits-add, spot-fits}
+use Rattle.co_meaning_data.specs.Turn.{Local, classes, happens, nowhere, pushed, store, with_frames, with_store}
+use Rattle.co_meaning_calls.specs.Objects.{comes_on, stands, stands_and_comes, born_in, lives, birth, is_born, ends, dtor_of_type, call_with, end_object_by, end_whole, end_part_by, end_field, end_next, died_in, dies, has_died, abandon}
+use Rattle.co_meaning_lives.specs.Tokens.{Fits, alive_weighs, credits, endings_weigh, event_credits, event_weighs, events_weigh, local_weighs, rest_weighs, seen_weighs, weighs}
+use Rattle.co_meaning_lives.proofs.Weights.{make_live-count, end_object-count, end_part-count, same, splits, goes-fits, under-fits, passes-fits, events-add, counted, credits-add, spot-fits, Below}
+use Rattle.co_meaning_data.specs.declared.events.Event.{Event}
 use Rattle.co_meaning_data.specs.declared.events.Event.TheVariants as event
 
 module _ (item raw on_birth on_death credit each : ℕ) (small : on_birth + on_death ≤ raw + credit) where
+  comes_on-fits : (limit n : ℕ) (outcome : Outcome) (l : Local) (o : Option (List Frame)) → Below item raw on_birth on_death credit each small n o → n + rest_weighs item raw on_birth on_death credit each l ≤ limit + credits item raw on_birth on_death credit each l.seen → Fits item raw on_birth on_death credit each limit (comes_on outcome l o)
+  comes_on-fits limit n outcome l None below known = tt
+  comes_on-fits limit n outcome l (Some fs) below known = goes-fits item raw on_birth on_death credit each small limit (Comes outcome) (with_frames fs l) (omega (arith, known, below))
+
+  stands-fits : (limit : ℕ) (y : Alive) (spot : Spot) (outcome : Outcome) (l : Local) → alive_weighs item raw on_birth on_death credit each y + local_weighs item raw on_birth on_death credit each l ≤ limit + credits item raw on_birth on_death credit each l.seen → Fits item raw on_birth on_death credit each limit (stands_and_comes y spot outcome l)
+  stands-fits limit y spot outcome l known = comes_on-fits limit _ outcome l (stands spot y l.top.frames) (spot-fits item raw on_birth on_death credit each small spot y l.top.frames) (omega (arith, known))
+
   born_in-fits : (limit : ℕ) (y : Alive) (spot : Spot) (outcome : Outcome) (l : Local) (o : Option ℕ) → y.coroutine ≡ o → weighs item raw on_birth on_death credit each y.object raw + local_weighs item raw on_birth on_death credit each l + each ≤ limit + credits item raw on_birth on_death credit each l.seen → Fits item raw on_birth on_death credit each limit (born_in y spot outcome l o)
   born_in-fits limit y spot outcome l None e known =
-      goes-fits item raw on_birth on_death credit each small limit (Comes outcome) (standing_at y spot l)
-      (let none = ap (λ c. seen_weighs item raw on_birth on_death credit each c (weighs item raw on_birth on_death credit each y.object on_death)) e in let stood = spot-fits item raw on_birth on_death credit each small spot y l.top.frames in omega (arith, known, none, stood))
+      stands-fits limit y spot outcome l
+      (let none = ap (λ c. seen_weighs item raw on_birth on_death credit each c (weighs item raw on_birth on_death credit each y.object on_death)) e in omega (arith, known, none))
   born_in-fits limit y spot outcome l (Some c) e known = goes-fits item raw on_birth on_death credit each small limit (IsBorn y spot outcome) l (omega (arith, known))
 
   pub lives-fits : (limit : ℕ) (y : Alive) (spot : Spot) (outcome : Outcome) (l : Local) → weighs item raw on_birth on_death credit each y.object raw + local_weighs item raw on_birth on_death credit each l + each ≤ limit + credits item raw on_birth on_death credit each l.seen → Fits item raw on_birth on_death credit each limit (lives y spot outcome l)
   lives-fits limit y spot outcome l known = born_in-fits limit y spot outcome (with_store (make_live y.object (store l)) l) y.coroutine refl (let kept = same item raw on_birth on_death credit each small (make_live y.object (store l)) (store l) (make_live-count y.object (store l)) in omega (arith, known, kept))
 
+  seen-weigh : (e : Event) (l : Local) → events_weigh item raw on_birth on_death credit each (happens e l).seen ≡ events_weigh item raw on_birth on_death credit each l.seen + (event_weighs item raw on_birth on_death credit each e + each)
+  seen-weigh e l = events-add item raw on_birth on_death credit each small l.seen e
+
+  seen-credits : (e : Event) (l : Local) → credits item raw on_birth on_death credit each (happens e l).seen ≡ credits item raw on_birth on_death credit each l.seen + event_credits item raw on_birth on_death credit each e
+  seen-credits e l = credits-add item raw on_birth on_death credit each small l.seen e
+
   pub birth-fits : (limit : ℕ) (y0 : Alive) (y1 : Spot) (y2 : Outcome) (y3 : Local) (y4 : Option ℕ) → weighs item raw on_birth on_death credit each y0.object raw + (local_weighs item raw on_birth on_death credit each y3) + each ≤ limit + credits item raw on_birth on_death credit each y3.seen → Fits item raw on_birth on_death credit each limit (birth y0 y1 y2 y3 y4)
   birth-fits limit x spot outcome l None known = tt
-  birth-fits limit x spot outcome l (Some c) known = (goes-fits item raw on_birth on_death credit each small limit (Comes outcome) (happens (event.Born c x.object) (standing_at x spot l)) (let f0 = events-add item raw on_birth on_death credit each small (standing_at x spot l).seen (event.Born c x.object) in let f1 = credits-add item raw on_birth on_death credit each small (standing_at x spot l).seen (event.Born c x.object) in let f2 = spot-fits item raw on_birth on_death credit each small spot x l.top.frames in let f3 = counted item raw on_birth on_death credit each small x in let f4 = splits item raw on_birth on_death credit each small x.object in omega (arith, known, f0, f1, f2, f3, f4)))
+  birth-fits limit x spot outcome l (Some c) known =
+      comes_on-fits limit _ outcome (happens (event.Born c x.object) l) (stands spot x l.top.frames) (spot-fits item raw on_birth on_death credit each small spot x l.top.frames)
+      (let f0 = seen-weigh (event.Born c x.object) l in let f1 = seen-credits (event.Born c x.object) l in let f3 = counted item raw on_birth on_death credit each small x in let f4 = splits item raw on_birth on_death credit each small x.object in omega (arith, known, f0, f1, f3, f4))
 
   pub is_born-fits : (limit : ℕ) (y0 : Alive) (y1 : Spot) (y2 : Outcome) (y3 : Local) → weighs item raw on_birth on_death credit each y0.object raw + (local_weighs item raw on_birth on_death credit each y3) + each ≤ limit + credits item raw on_birth on_death credit each y3.seen → Fits item raw on_birth on_death credit each limit (is_born y0 y1 y2 y3)
   is_born-fits limit x spot outcome l known = (birth-fits limit x spot outcome l x.coroutine (omega (arith, known)))

@@ -2,10 +2,12 @@
 use Rattle.std.proofs.Common.{◌≡◌, ℕ, zero, suc, ◌+◌, ◌≤◌, List, [], ◌∷◌, ◌++◌, Bool, true, false, Some, None, refl, ap, ◌∙◌, arith, length, length-append, length-set}
 use Rattle.std.proofs.lemmas.Bool.{eqb-true, ltb-false, ltb-true}
 use Rattle.std.specs.Prelude.{Option, if◌then◌else◌, ◌==◌, nat_lt, slice_set}
+use Rattle.std.specs.Option.{option_map}
 use Rattle.co_base.specs.declared.kinds.Thrown.{Thrown}
 use Rattle.co_base.specs.declared.kinds.Undef.{Undef}
 use Rattle.co_base.specs.declared.span.Span.{Span}
 use Rattle.co_types.specs.declared.classes.ClassInfo.{ClassInfo}
+use Rattle.co_core_tree.specs.declared.exprs.AwaitPlan.{AwaitPlan}
 use Rattle.co_meaning_calls.specs.Calls.{calls}
 use Rattle.co_meaning_data.specs.Frames.{Alive, Spot, InScope, InFull, InHold, Activation, Doing, Frame, Given, Going, Temporal, Scope, Full, AwaitSuspend, Holds}
 use Rattle.co_meaning_data.specs.Store.{Place, Store, StoredBlock, StoredObject, add_object, end_object, end_part, ended_object, leave_block, made_live, make_live, object_at, block_at, release, released_block, end_standing, set_cell, set_part, set_standing, stands_in, standing_in, with_cell, with_cells, set_cells, is_object_standing, all_outside, next_object, offset_at, words_of, type_at, with_object}
@@ -18,7 +20,7 @@ use Rattle.co_meaning_data.specs.declared.values.Cell.TheVariants as cell
 use Rattle.co_meaning_data.specs.declared.values.Lifetime.TheVariants as lifetime
 use Rattle.co_meaning_data.specs.declared.values.Standing.{Standing}
 use Rattle.co_meaning_data.specs.declared.values.Standing.TheVariants as standing
-use Rattle.co_meaning_calls.specs.Objects.{endings, fields_end, into_full, into_hold, into_scope, live_temporaries, made_temporaries, set_mark, stands, temporaries_end, temporary_ends, unseen_endings}
+use Rattle.co_meaning_calls.specs.Objects.{endings, fields_end, into_full, into_hold, into_scope, live_temporaries, made_of, made_temporaries, own_with, set_mark, stands, temporaries_end, temporary_ends, unseen_endings}
 use Rattle.co_meaning_lives.specs.Tokens.{Fits, alive_weigh, alive_weighs, common_weighs, credits, doing_weighs, endings_weigh, event_credits, event_weighs, events_weigh, frame_weighs, frames_weigh, fresh_weighs, local_weighs, object_weighs, seen_weighs, temporaries_weigh, weighs}
 
 -- ---- the store has as many objects as before
@@ -165,31 +167,70 @@ module _ (item raw on_birth on_death credit each : ℕ) (small : on_birth + on_d
 
   -- ---- lists in frames
 
-  pub scope : (y : Alive) (fs : List Frame) → frames_weigh item raw on_birth on_death credit each (into_scope y fs) ≤ alive_weighs item raw on_birth on_death credit each y + frames_weigh item raw on_birth on_death credit each fs
-  scope y [] = omega arith
+  -- the frames, where there are some, weigh no more
+  abbrev pub Below : ℕ → Option (List Frame) → Type 0
+  Below n None = Unit {0}
+  Below n (Some fs) = frames_weigh item raw on_birth on_death credit each fs ≤ n
+
+  behind : (f : Frame) (n : ℕ) (o : Option (List Frame)) → Below n o → Below (frame_weighs item raw on_birth on_death credit each f + n) (option_map (λ gs. f ∷ gs) o)
+  behind f n None h = tt
+  behind f n (Some fs) h = omega (arith, h)
+
+  wider : (m n : ℕ) (o : Option (List Frame)) → m ≤ n → Below m o → Below n o
+  wider m n None e h = tt
+  wider m n (Some fs) e h = omega (arith, e, h)
+
+  pub scope : (y : Alive) (fs : List Frame) → Below (alive_weighs item raw on_birth on_death credit each y + frames_weigh item raw on_birth on_death credit each fs) (into_scope y fs)
+  scope y [] = tt
   scope y (Scope alive rest ∷ fs) = omega arith
-  scope y (f ∷ fs) = let rest = scope y fs in omega (arith, rest)
+  scope y (f ∷ fs) = wider _ _ (into_scope y (f ∷ fs)) (omega arith) (behind f _ (into_scope y fs) (scope y fs))
 
-  pub hold : (y : Alive) (fs : List Frame) → frames_weigh item raw on_birth on_death credit each (into_hold y fs) ≤ alive_weighs item raw on_birth on_death credit each y + frames_weigh item raw on_birth on_death credit each fs
-  hold y [] = omega arith
+  pub hold : (y : Alive) (fs : List Frame) → Below (alive_weighs item raw on_birth on_death credit each y + frames_weigh item raw on_birth on_death credit each fs) (into_hold y fs)
+  hold y [] = tt
   hold y (Holds h ∷ fs) = omega arith
-  hold y (f ∷ fs) = let rest = hold y fs in omega (arith, rest)
+  hold y (f ∷ fs) = wider _ _ (into_hold y (f ∷ fs)) (omega arith) (behind f _ (into_hold y fs) (hold y fs))
 
-  made : (slot : ℕ) (y : Alive) (ts : List Temporal) → temporaries_weigh item raw on_birth on_death credit each (made_temporaries slot y ts) ≤ alive_weighs item raw on_birth on_death credit each y + temporaries_weigh item raw on_birth on_death credit each ts
-  made slot y [] = omega arith
+  abbrev BelowTemporaries : ℕ → Option (List Temporal) → Type 0
+  BelowTemporaries n None = Unit {0}
+  BelowTemporaries n (Some ts) = temporaries_weigh item raw on_birth on_death credit each ts ≤ n
+
+  made_now : (y : Alive) (t : Temporal) (ts : List Temporal) (o : Option Alive) → BelowTemporaries (alive_weighs item raw on_birth on_death credit each y + (object_weighs item raw on_birth on_death credit each o + temporaries_weigh item raw on_birth on_death credit each ts)) (made_of y t ts o)
+  made_now y t ts None = omega arith
+  made_now y t ts (Some z) = tt
+
+  made_later : (n : ℕ) (t : Temporal) (o : Option (List Temporal)) → BelowTemporaries n o → BelowTemporaries (object_weighs item raw on_birth on_death credit each t.object + n) (option_map (λ us. t ∷ us) o)
+  made_later n t None h = tt
+  made_later n t (Some ts) h = omega (arith, h)
+
+  more_temporaries : (m n : ℕ) (o : Option (List Temporal)) → m ≤ n → BelowTemporaries m o → BelowTemporaries n o
+  more_temporaries m n None e h = tt
+  more_temporaries m n (Some ts) e h = omega (arith, e, h)
+
+  made : (slot : ℕ) (y : Alive) (ts : List Temporal) → BelowTemporaries (alive_weighs item raw on_birth on_death credit each y + temporaries_weigh item raw on_birth on_death credit each ts) (made_temporaries slot y ts)
+  made slot y [] = tt
   made slot y (t ∷ ts) = go (made slot y ts) (t.slot == slot)
     where
-      go : temporaries_weigh item raw on_birth on_death credit each (made_temporaries slot y ts) ≤ alive_weighs item raw on_birth on_death credit each y + temporaries_weigh item raw on_birth on_death credit each ts → (c : Bool) → temporaries_weigh item raw on_birth on_death credit each (if c then record t { object = Some y } ∷ ts else t ∷ made_temporaries slot y ts) ≤ alive_weighs item raw on_birth on_death credit each y + (object_weighs item raw on_birth on_death credit each t.object + temporaries_weigh item raw on_birth on_death credit each ts)
-      go rest true = omega arith
-      go rest false = omega (arith, rest)
+      go : BelowTemporaries (alive_weighs item raw on_birth on_death credit each y + temporaries_weigh item raw on_birth on_death credit each ts) (made_temporaries slot y ts) → (c : Bool)
+          → BelowTemporaries (alive_weighs item raw on_birth on_death credit each y + (object_weighs item raw on_birth on_death credit each t.object + temporaries_weigh item raw on_birth on_death credit each ts)) (if c then made_of y t ts t.object else option_map (λ us. t ∷ us) (made_temporaries slot y ts))
+      go rest true = made_now y t ts t.object
+      go rest false = more_temporaries _ _ (option_map (λ us. t ∷ us) (made_temporaries slot y ts)) (omega arith) (made_later _ t (made_temporaries slot y ts) rest)
 
-  full : (slot : ℕ) (y : Alive) (fs : List Frame) → frames_weigh item raw on_birth on_death credit each (into_full slot y fs) ≤ alive_weighs item raw on_birth on_death credit each y + frames_weigh item raw on_birth on_death credit each fs
-  full slot y [] = omega arith
-  full slot y (Full ts ∷ fs) = let rest = made slot y ts in omega (arith, rest)
-  full slot y (AwaitSuspend plan into own ∷ fs) = omega arith
-  full slot y (f ∷ fs) = let rest = full slot y fs in omega (arith, rest)
+  full_with : (n : ℕ) (fs : List Frame) (o : Option (List Temporal)) → BelowTemporaries n o → Below (n + frames_weigh item raw on_birth on_death credit each fs) (option_map (λ us. Full us ∷ fs) o)
+  full_with n fs None h = tt
+  full_with n fs (Some ts) h = omega (arith, h)
 
-  pub spot-fits : (spot : Spot) (y : Alive) (fs : List Frame) → frames_weigh item raw on_birth on_death credit each (stands spot y fs) ≤ alive_weighs item raw on_birth on_death credit each y + frames_weigh item raw on_birth on_death credit each fs
+  own_with-below : (y : Alive) (own : List ℕ) (plan : AwaitPlan) (into : Option Place) (fs : List Frame) (c : Option ℕ)
+      → Below (alive_weighs item raw on_birth on_death credit each y + frames_weigh item raw on_birth on_death credit each fs) (option_map (λ xs. AwaitSuspend plan into xs ∷ fs) (own_with y own c))
+  own_with-below y own plan into fs None = omega arith
+  own_with-below y own plan into fs (Some c) = tt
+
+  full : (slot : ℕ) (y : Alive) (fs : List Frame) → Below (alive_weighs item raw on_birth on_death credit each y + frames_weigh item raw on_birth on_death credit each fs) (into_full slot y fs)
+  full slot y [] = tt
+  full slot y (Full ts ∷ fs) = wider _ _ (into_full slot y (Full ts ∷ fs)) (omega arith) (full_with _ fs (made_temporaries slot y ts) (made slot y ts))
+  full slot y (AwaitSuspend plan into own ∷ fs) = wider _ _ (into_full slot y (AwaitSuspend plan into own ∷ fs)) (omega arith) (own_with-below y own plan into fs y.coroutine)
+  full slot y (f ∷ fs) = wider _ _ (into_full slot y (f ∷ fs)) (omega arith) (behind f _ (into_full slot y fs) (full slot y fs))
+
+  pub spot-fits : (spot : Spot) (y : Alive) (fs : List Frame) → Below (alive_weighs item raw on_birth on_death credit each y + frames_weigh item raw on_birth on_death credit each fs) (stands spot y fs)
   spot-fits InScope y fs = scope y fs
   spot-fits (InFull slot) y fs = full slot y fs
   spot-fits InHold y fs = hold y fs
