@@ -10,13 +10,13 @@ use Rattle.co_meaning_data.specs.Frames.{Alive, AwaitSuspend, Border, Building, 
 use Rattle.co_meaning_data.specs.Store.{Place}
 use Rattle.co_meaning_data.specs.declared.events.Event.{Event}
 use Rattle.co_meaning_data.specs.declared.events.Event.TheVariants as event
-use Rattle.co_meaning.specs.Balanced.{births_in, deaths}
 use Rattle.co_meaning_calls.specs.Calls.{one_more_field, unmade, unmade_all}
 use Rattle.co_meaning_calls.specs.Coroutines.{reached}
 use Rattle.co_meaning_calls.specs.Objects.{endings, fields_end, into_full, into_hold, into_scope, live_temporaries, made_of, made_temporaries, own_with, set_mark, stands, temporaries_end, temporary_ends, unseen_endings}
+use Rattle.co_meaning.specs.Balanced.{births_in, deaths}
+use Rattle.co_meaning_balance.proofs.Frames.{marks, one-more, reaches}
 use Rattle.co_meaning_balance.specs.Order.{frame_holds, frame_inner, frame_strays, frames_hold, frames_inner, frames_stray, is_other, lacks, object_needs, one_more}
 use Rattle.co_meaning_balance.specs.Places.{condition_alive, condition_holds, ended, ending_alive, endings_alive, frame_alive, frames_alive, object_alive, objects_alive, option_alive, present, seen_alive, temporaries_alive}
-use Rattle.co_meaning_balance.proofs.Frames.{marks, one-more, reaches}
 
 module _ (number item : ℕ) where
   -- ---- what is seen

@@ -1,5 +1,5 @@
 -- Calls lose no object.
-use Rattle.std.proofs.Common.{◌≡◌, ℕ, zero, suc, ◌+◌, List, [], ◌∷◌, ◌++◌, Bool, true, false, Some, None, refl, arith, length}
+use Rattle.std.proofs.Common.{◌≡◌, ℕ, zero, suc, ◌+◌, List, [], ◌∷◌, ◌++◌, Bool, true, false, Some, None, refl, arith, length, ap, subst, sym, ◌∙◌}
 use Rattle.std.specs.Prelude.{if◌then◌else◌, reverse, slice_get, Option, is_some}
 use Rattle.co_base.specs.declared.ids.ClassId.{ClassId}
 use Rattle.co_types.specs.declared.types.CoType.{CoType}
@@ -9,20 +9,18 @@ use Rattle.co_core_tree.specs.declared.exprs.Init.{Init}
 use Rattle.co_core_tree.specs.declared.stmts.CoreStmt.{CoreStmt}
 use Rattle.co_core_tree.specs.declared.units.CoreFunc.{CoreFunc}
 use Rattle.co_core_tree.specs.declared.units.FuncRole.{FuncRole}
+use Rattle.co_core_tree.specs.declared.units.FuncRole.TheVariants as role
 use Rattle.co_meaning_data.specs.Frames.{Activation, Call, Calling, Comes, Constructing, Doing, FieldMade, Frame, Full, Function, Given, Gives, Goes, Going, Idle, Initialize, Kind, Nothing, OfFunction, Opens, Outcome, Passes, RampTake, Returning, Throwing}
 use Rattle.co_meaning_data.specs.Store.{Place, field_of_place}
-use Rattle.co_meaning_calls.specs.Objects.{type_of_slot}
-use Rattle.co_meaning_data.specs.Turn.{Local, func_of, funcs, pushed, store, with_frames}
-use Rattle.co_meaning_calls.specs.Calls.{unmade_all, mark_count, opens, open_step, temp_of, argument_object, class_argument, argument_for, argument, argument_made, argument_lives, bind, border, around, this_of, member_frames, first_doing, frames_for, doing_for, activation_for, entered, enter_in, enter, next_member, next_element, one_more_field, field_made, returned_main, returns_to, returns, throws_to, last_frame, function_left, at_border, call_returned, Bound}
-use Rattle.co_core_tree.specs.declared.units.FuncRole.TheVariants as role
-use Rattle.std.proofs.Common.{ap, subst, sym, ◌∙◌}
-use Rattle.co_meaning_data.specs.Turn.{goes, rests}
+use Rattle.co_meaning_data.specs.Turn.{Local, func_of, funcs, pushed, store, with_frames, goes, rests}
 use Rattle.co_meaning_data.specs.Undefined.{numbered}
+use Rattle.co_meaning_calls.specs.Calls.{unmade_all, mark_count, opens, open_step, temp_of, argument_object, class_argument, argument_for, argument, argument_made, argument_lives, bind, border, around, this_of, member_frames, first_doing, frames_for, doing_for, activation_for, entered, enter_in, enter, next_member, next_element, one_more_field, field_made, returned_main, returns_to, returns, throws_to, last_frame, function_left, at_border, call_returned, Bound}
+use Rattle.co_meaning_calls.specs.Objects.{type_of_slot}
+use Rattle.co_meaning_balance.proofs.Alive.{inner-alive, inner-held, one-more-alive, unmade-none}
+use Rattle.co_meaning_balance.proofs.Frames.{one-more}
+use Rattle.co_meaning_balance.proofs.ObjectsKeeps.{is_uncaught-keeps, unseen_ends-keeps}
 use Rattle.co_meaning_balance.specs.Order.{frames_hold}
 use Rattle.co_meaning_balance.specs.Places.{Balances, Keeps, Kept, RestKept, activations_alive, activations_hold, coroutine_alive, coroutine_tokens, doing_alive, doing_tokens, frames_alive, present}
-use Rattle.co_meaning_balance.proofs.Frames.{one-more}
-use Rattle.co_meaning_balance.proofs.Alive.{inner-alive, inner-held, one-more-alive, unmade-none}
-use Rattle.co_meaning_balance.proofs.ObjectsKeeps.{is_uncaught-keeps, unseen_ends-keeps}
 
 module _ (number item limit owed : ℕ) where
   -- frames that hold and keep alive as much
@@ -81,25 +79,25 @@ module _ (number item limit owed : ℕ) where
   open_step-keeps zero d l known = known
   open_step-keeps (suc marks) d l known = known
 
-  pub argument_object-keeps : (y0 : ℕ) (y1 : Init) (y2 : Call) (y3 : Local) (y4 : Option CoType) → Kept number item limit owed y3 → Keeps number item limit owed (argument_object y0 y1 y2 y3 y4)
+  pub argument_object-keeps : (slot : ℕ) (i : Init) (call : Call) (l : Local) (o : Option CoType) → Kept number item limit owed l → Keeps number item limit owed (argument_object slot i call l o)
   argument_object-keeps slot i call l None known = tt
   argument_object-keeps slot i call l (Some of) known = known
 
-  pub class_argument-keeps : (y0 : Call) (y1 : Init) (y2 : Local) (y3 : Option (ℕ × Init)) → Kept number item limit owed y2 → Keeps number item limit owed (class_argument y0 y1 y2 y3)
+  pub class_argument-keeps : (call : Call) (i : Init) (l : Local) (o : Option (ℕ × Init)) → Kept number item limit owed l → Keeps number item limit owed (class_argument call i l o)
   class_argument-keeps call i l None known = known
   class_argument-keeps call i l (Some made) known = argument_object-keeps made.0 made.1 call l (type_of_slot l made.0) known
 
-  pub argument_for-keeps : (y0 : Option Bool) (y1 : Init) (y2 : Call) (y3 : Local) → Kept number item limit owed y3 → Keeps number item limit owed (argument_for y0 y1 y2 y3)
+  pub argument_for-keeps : (flag : Option Bool) (i : Init) (call : Call) (l : Local) → Kept number item limit owed l → Keeps number item limit owed (argument_for flag i call l)
   argument_for-keeps (Some true) i call l known = class_argument-keeps call i l (temp_of i) known
   argument_for-keeps flag i call l known = known
 
-  pub argument-keeps : (y0 : Call) (y1 : Init) (y2 : Local) → Kept number item limit owed y2 → Keeps number item limit owed (argument y0 y1 y2)
+  pub argument-keeps : (call : Call) (i : Init) (l : Local) → Kept number item limit owed l → Keeps number item limit owed (argument call i l)
   argument-keeps call i l known = argument_for-keeps (slice_get (class_params (funcs l) call.func) (length call.given)) i call l known
 
-  pub argument_made-keeps : (y0 : ℕ) (y1 : Call) (y2 : Local) → Kept number item limit owed y2 → Keeps number item limit owed (argument_made y0 y1 y2)
+  pub argument_made-keeps : (x : ℕ) (call : Call) (l : Local) → Kept number item limit owed l → Keeps number item limit owed (argument_made x call l)
   argument_made-keeps x call l known = known
 
-  pub argument_lives-keeps : (y0 : ℕ) (y1 : List Frame) (y2 : Local) → Kept number item limit owed (with_frames y1 y2) → Keeps number item limit owed (argument_lives y0 y1 y2)
+  pub argument_lives-keeps : (x : ℕ) (fs : List Frame) (l : Local) → Kept number item limit owed (with_frames fs l) → Keeps number item limit owed (argument_lives x fs l)
   argument_lives-keeps x (Calling call ∷ fs) l known = argument_made-keeps x call (with_frames fs l) known
   argument_lives-keeps x fs l known = tt
 
@@ -120,15 +118,15 @@ module _ (number item limit owed : ℕ) where
   enter_in-keeps call l None known = tt
   enter_in-keeps call l (Some func) known = entered-keeps func call l (bind func (reverse call.given) (store l)) known
 
-  pub enter-keeps : (y0 : Call) (y1 : Local) → Kept number item limit owed y1 → Keeps number item limit owed (enter y0 y1)
+  pub enter-keeps : (call : Call) (l : Local) → Kept number item limit owed l → Keeps number item limit owed (enter call l)
   enter-keeps call l known = enter_in-keeps call l (slice_get (funcs l) call.func.0) known
 
-  pub next_member-keeps : (y0 : Place) (y1 : ClassId) (y2 : ℕ) (y3 : List Init) (y4 : List CoreStmt) (y5 : Local) → Kept number item limit owed y5 → Keeps number item limit owed (next_member y0 y1 y2 y3 y4 y5)
+  pub next_member-keeps : (p : Place) (class : ClassId) (built : ℕ) (list : List Init) (body : List CoreStmt) (l : Local) → Kept number item limit owed l → Keeps number item limit owed (next_member p class built list body l)
   next_member-keeps p class built (i ∷ rest) body l known = opens-keeps (init_acts (class_params (funcs l)) false false i) (FieldMade ∷ []) (Initialize i (Some (field_of_place p built))) (pushed (Constructing p class built rest body) l) known
   next_member-keeps p class built [] (s ∷ body) l known = known
   next_member-keeps p class built [] [] l known = known
 
-  pub next_element-keeps : (y0 : Place) (y1 : ℕ) (y2 : List Init) (y3 : Local) → Kept number item limit owed y3 → Keeps number item limit owed (next_element y0 y1 y2 y3)
+  pub next_element-keeps : (p : Place) (built : ℕ) (list : List Init) (l : Local) → Kept number item limit owed l → Keeps number item limit owed (next_element p built list l)
   next_element-keeps p built (i ∷ rest) l known = known
   next_element-keeps p built [] l known = known
 
@@ -160,15 +158,15 @@ module _ (number item limit owed : ℕ) where
       go Passes rest = returns-keeps Nothing l rest
       go (Goes going) rest = throws_to-keeps l.below going l e rest
 
-  pub function_left-keeps : (y0 : List ℕ) (y1 : Going) (y2 : Local) → Kept number item limit owed y2 → Keeps number item limit owed (function_left y0 y1 y2)
+  pub function_left-keeps : (own : List ℕ) (going : Going) (l : Local) → Kept number item limit owed l → Keeps number item limit owed (function_left own going l)
   function_left-keeps own (Returning g) l known = unseen_ends-keeps number item limit owed own (Gives g) l known
   function_left-keeps own (Throwing v) l known = unseen_ends-keeps number item limit owed own (Goes (Throwing v)) l known
   function_left-keeps own going l known = tt
 
-  pub at_border-keeps : (y0 : Going) (y1 : Local) → Kept number item limit owed y1 → Keeps number item limit owed (at_border y0 y1)
+  pub at_border-keeps : (going : Going) (l : Local) → Kept number item limit owed l → Keeps number item limit owed (at_border going l)
   at_border-keeps (Throwing v) l known = is_uncaught-keeps number item limit owed v l known
   at_border-keeps going l known = known
 
-  pub call_returned-keeps : (y0 : List ℕ) (y1 : Outcome) (y2 : Local) → Kept number item limit owed y2 → Keeps number item limit owed (call_returned y0 y1 y2)
+  pub call_returned-keeps : (list : List ℕ) (outcome : Outcome) (l : Local) → Kept number item limit owed l → Keeps number item limit owed (call_returned list outcome l)
   call_returned-keeps [] outcome l known = known
   call_returned-keeps (x ∷ xs) outcome l known = unseen_ends-keeps number item limit owed (x ∷ xs) outcome l known

@@ -9,15 +9,15 @@ use Rattle.co_core_tree.specs.declared.exprs.Init.{Init}
 use Rattle.co_core_tree.specs.declared.stmts.CoreStmt.{CoreStmt}
 use Rattle.co_core_tree.specs.declared.units.CoreFunc.{CoreFunc}
 use Rattle.co_core_tree.specs.declared.units.FuncRole.{FuncRole}
+use Rattle.co_core_tree.specs.declared.units.FuncRole.TheVariants as role
 use Rattle.co_meaning_data.specs.Frames.{Activation, Call, Calling, Comes, Constructing, Doing, FieldMade, Frame, Function, Given, Gives, Goes, Going, Initialize, Kind, Nothing, OfFunction, Outcome, Passes, RampTake, Returning, Temporal, Throwing}
 use Rattle.co_meaning_data.specs.Store.{Place, field_of_place}
-use Rattle.co_meaning_calls.specs.Objects.{unseen_endings, type_of_slot}
 use Rattle.co_meaning_data.specs.Turn.{Local, func_of, funcs, pushed, store, with_frames}
 use Rattle.co_meaning_calls.specs.Calls.{unmade_all, opens_with, opens, open_step, temp_of, argument_object, class_argument, argument_for, argument, argument_made, argument_lives, bind, border, around, this_of, member_frames, first_doing, frames_for, doing_for, entered, enter_in, enter, next_member, next_element, field_made, returned_main, returns_to, returns, throws_to, last_frame, function_left, at_border, call_returned, Bound}
-use Rattle.co_core_tree.specs.declared.units.FuncRole.TheVariants as role
-use Rattle.co_meaning_balance.specs.Order.{InOrder, activations_stray, coroutines_stray, doing_strays, frames_hold, frames_inner, needs, frames_stray, local_strays, open_strays, rest_strays}
+use Rattle.co_meaning_calls.specs.Objects.{unseen_endings, type_of_slot}
 use Rattle.co_meaning_balance.proofs.Frames.{few, one-more}
 use Rattle.co_meaning_balance.proofs.ObjectsOrder.{ends-order}
+use Rattle.co_meaning_balance.specs.Order.{InOrder, activations_stray, coroutines_stray, doing_strays, frames_hold, frames_inner, needs, frames_stray, local_strays, open_strays, rest_strays}
 
 -- what stands around a body is in order in a function that is of no coroutine yet
 pub around-inner : (func : CoreFunc) (own : List ℕ) → frames_inner (around func own) ≡ 0
@@ -68,25 +68,25 @@ pub open_step-order : (marks : ℕ) (d : Doing) (l : Local) → doing_strays l.t
 open_step-order zero d l known = omega (arith, known)
 open_step-order (suc marks) d l known = omega (arith, known)
 
-pub argument_object-order : (y0 : ℕ) (y1 : Init) (y2 : Call) (y3 : Local) (y4 : Option CoType) → open_strays y3 ≤ 0 → InOrder (argument_object y0 y1 y2 y3 y4)
+pub argument_object-order : (slot : ℕ) (i : Init) (call : Call) (l : Local) (o : Option CoType) → open_strays l ≤ 0 → InOrder (argument_object slot i call l o)
 argument_object-order slot i call l None known = tt
 argument_object-order slot i call l (Some of) known = let fact0 = few (needs l.top.coroutine (frames_hold l.top.coroutine l.top.frames)) call.rest in omega (arith, known, fact0)
 
-pub class_argument-order : (y0 : Call) (y1 : Init) (y2 : Local) (y3 : Option (ℕ × Init)) → open_strays y2 ≤ 0 → InOrder (class_argument y0 y1 y2 y3)
+pub class_argument-order : (call : Call) (i : Init) (l : Local) (o : Option (ℕ × Init)) → open_strays l ≤ 0 → InOrder (class_argument call i l o)
 class_argument-order call i l None known = let fact0 = few (needs l.top.coroutine (frames_hold l.top.coroutine l.top.frames)) call.rest in omega (arith, known, fact0)
 class_argument-order call i l (Some made) known = argument_object-order made.0 made.1 call l (type_of_slot l made.0) (omega (arith, known))
 
-pub argument_for-order : (y0 : Option Bool) (y1 : Init) (y2 : Call) (y3 : Local) → open_strays y3 ≤ 0 → InOrder (argument_for y0 y1 y2 y3)
+pub argument_for-order : (flag : Option Bool) (i : Init) (call : Call) (l : Local) → open_strays l ≤ 0 → InOrder (argument_for flag i call l)
 argument_for-order (Some true) i call l known = class_argument-order call i l (temp_of i) (omega (arith, known))
 argument_for-order flag i call l known = let fact0 = few (needs l.top.coroutine (frames_hold l.top.coroutine l.top.frames)) call.rest in omega (arith, known, fact0)
 
-pub argument-order : (y0 : Call) (y1 : Init) (y2 : Local) → open_strays y2 ≤ 0 → InOrder (argument y0 y1 y2)
+pub argument-order : (call : Call) (i : Init) (l : Local) → open_strays l ≤ 0 → InOrder (argument call i l)
 argument-order call i l known = argument_for-order (slice_get (class_params (funcs l) call.func) (length call.given)) i call l (omega (arith, known))
 
-argument_made-order : (y0 : ℕ) (y1 : Call) (y2 : Local) → frames_stray y2.top.coroutine (Calling y1 ∷ y2.top.frames) + rest_strays y2 ≤ 0 → InOrder (argument_made y0 y1 y2)
+argument_made-order : (x : ℕ) (call : Call) (l : Local) → frames_stray l.top.coroutine (Calling call ∷ l.top.frames) + rest_strays l ≤ 0 → InOrder (argument_made x call l)
 argument_made-order x call l known = omega (arith, known)
 
-pub argument_lives-order : (y0 : ℕ) (y1 : List Frame) (y2 : Local) → frames_stray y2.top.coroutine y1 + rest_strays y2 ≤ 0 → InOrder (argument_lives y0 y1 y2)
+pub argument_lives-order : (x : ℕ) (fs : List Frame) (l : Local) → frames_stray l.top.coroutine fs + rest_strays l ≤ 0 → InOrder (argument_lives x fs l)
 argument_lives-order x (Calling call ∷ fs) l known = argument_made-order x call (with_frames fs l) (omega (arith, known))
 argument_lives-order x fs l known = tt
 
@@ -101,15 +101,15 @@ enter_in-order : (call : Call) (l : Local) (func : Option CoreFunc) → local_st
 enter_in-order call l None known = tt
 enter_in-order call l (Some func) known = entered-order func call l (bind func (reverse call.given) (store l)) known
 
-pub enter-order : (y0 : Call) (y1 : Local) → local_strays y1 ≤ 0 → InOrder (enter y0 y1)
+pub enter-order : (call : Call) (l : Local) → local_strays l ≤ 0 → InOrder (enter call l)
 enter-order call l known = enter_in-order call l (slice_get (funcs l) call.func.0) (omega (arith, known))
 
-pub next_member-order : (y0 : Place) (y1 : ClassId) (y2 : ℕ) (y3 : List Init) (y4 : List CoreStmt) (y5 : Local) → open_strays y5 ≤ 0 → InOrder (next_member y0 y1 y2 y3 y4 y5)
+pub next_member-order : (p : Place) (class : ClassId) (built : ℕ) (list : List Init) (body : List CoreStmt) (l : Local) → open_strays l ≤ 0 → InOrder (next_member p class built list body l)
 next_member-order p class built (i ∷ rest) body l known = opens-order (init_acts (class_params (funcs l)) false false i) (FieldMade ∷ []) (Initialize i (Some (field_of_place p built))) (pushed (Constructing p class built rest body) l) (λ us. omega (arith, known))
 next_member-order p class built [] (s ∷ body) l known = omega (arith, known)
 next_member-order p class built [] [] l known = omega (arith, known)
 
-pub next_element-order : (y0 : Place) (y1 : ℕ) (y2 : List Init) (y3 : Local) → open_strays y3 ≤ 0 → InOrder (next_element y0 y1 y2 y3)
+pub next_element-order : (p : Place) (built : ℕ) (list : List Init) (l : Local) → open_strays l ≤ 0 → InOrder (next_element p built list l)
 next_element-order p built (i ∷ rest) l known = omega (arith, known)
 next_element-order p built [] l known = omega (arith, known)
 
@@ -133,15 +133,15 @@ last_frame-order (Gives g) l known = returns-order g l (omega (arith, known))
 last_frame-order Passes l known = returns-order Nothing l (omega (arith, known))
 last_frame-order (Goes going) l known = throws_to-order l.below going l (omega (arith, known))
 
-pub function_left-order : (y0 : List ℕ) (y1 : Going) (y2 : Local) → local_strays y2 ≤ 0 → InOrder (function_left y0 y1 y2)
+pub function_left-order : (own : List ℕ) (going : Going) (l : Local) → local_strays l ≤ 0 → InOrder (function_left own going l)
 function_left-order own (Returning g) l known = ends-order (unseen_endings own) (Gives g) l (omega (arith, known))
 function_left-order own (Throwing v) l known = ends-order (unseen_endings own) (Goes (Throwing v)) l (omega (arith, known))
 function_left-order own going l known = tt
 
-pub at_border-order : (y0 : Going) (y1 : Local) → local_strays y1 ≤ 0 → InOrder (at_border y0 y1)
+pub at_border-order : (going : Going) (l : Local) → local_strays l ≤ 0 → InOrder (at_border going l)
 at_border-order (Throwing v) l known = omega (arith, known)
 at_border-order going l known = omega (arith, known)
 
-pub call_returned-order : (y0 : List ℕ) (y1 : Outcome) (y2 : Local) → local_strays y2 ≤ 0 → InOrder (call_returned y0 y1 y2)
+pub call_returned-order : (list : List ℕ) (outcome : Outcome) (l : Local) → local_strays l ≤ 0 → InOrder (call_returned list outcome l)
 call_returned-order [] outcome l known = omega (arith, known)
 call_returned-order (x ∷ xs) outcome l known = ends-order (unseen_endings (x ∷ xs)) outcome l (omega (arith, known))

@@ -1,5 +1,6 @@
 -- Coroutines lose no object.
-use Rattle.std.proofs.Common.{◌≡◌, ℕ, zero, suc, ◌+◌, ◌≤◌, List, [], ◌∷◌, ◌++◌, Bool, true, false, Some, None, refl, ap, ◌∙◌, arith, length}
+use Rattle.std.proofs.Common.{◌≡◌, ℕ, zero, suc, ◌+◌, ◌≤◌, List, [], ◌∷◌, ◌++◌, Bool, true, false, Some, None, refl, ap, ◌∙◌, arith, length, subst, sym}
+use Rattle.std.proofs.lemmas.Bool.{eqb-false, eqb-true}
 use Rattle.std.specs.Prelude.{◌/◌, ◌==◌, if◌then◌else◌, Option}
 use Rattle.co_base.specs.declared.ids.FuncId.{FuncId}
 use Rattle.co_base.specs.declared.kinds.Thrown.{Thrown}
@@ -9,77 +10,72 @@ use Rattle.co_types.specs.declared.types.CoType.{CoType}
 use Rattle.co_core_tree.specs.declared.exprs.AwaitPlan.{AwaitPlan}
 use Rattle.co_core_tree.specs.declared.exprs.Init.{Init}
 use Rattle.co_core_tree.specs.declared.kinds.Answer.{Answer}
+use Rattle.co_core_tree.specs.declared.kinds.Answer.TheVariants as answer
 use Rattle.co_core_tree.specs.declared.kinds.GivePlan.{GivePlan}
+use Rattle.co_core_tree.specs.declared.kinds.GivePlan.TheVariants as give
 use Rattle.co_core_tree.specs.declared.kinds.TakePlan.{TakePlan}
+use Rattle.co_core_tree.specs.declared.kinds.TakePlan.TheVariants as take_plan
 use Rattle.co_core_tree.specs.declared.units.CopyPlan.{CopyPlan}
 use Rattle.co_core_tree.specs.declared.units.CoreFunc.{CoreFunc}
 use Rattle.co_core_tree.specs.declared.units.PromisePlan.{PromisePlan}
-use Rattle.co_meaning_data.specs.declared.values.Value.{Value}
-use Rattle.co_meaning_data.specs.Frames.{Alive, InHold, Activation, Answers, At, AwaitResume, AwaitSuspend, Awaits, Calling, Closes, Comes, Condition, Continuation, Coroutine, Destroying, Drops, Evaluate, Final, Frame, Given, Gives, Goes, Going, HasEnded, Hold, Holds, Initialize, IsMade, Leaving, Nothing, OfBody, OfDestroy, Outcome, Over, Passes, RampCopies, RampDone, RampMade, RampResult, RampTaken, Running, Scalar, Suspended, Throwing}
+use Rattle.co_meaning_data.specs.Frames.{Alive, InHold, Activation, Answers, At, AwaitResume, AwaitSuspend, Awaits, Calling, Closes, Comes, Condition, Continuation, Coroutine, Destroying, Drops, Evaluate, Final, Frame, Given, Gives, Goes, Going, HasEnded, Hold, Holds, Initialize, IsMade, Leaving, Nothing, OfBody, OfDestroy, Outcome, Over, Passes, RampCopies, RampDone, RampMade, RampResult, RampTaken, Running, Scalar, Suspended, Throwing, Doing, Kind}
 use Rattle.co_meaning_data.specs.Store.{Place, next_object, set_standing, whole}
+use Rattle.co_meaning_data.specs.Turn.{Local, frame_bytes, func_of, goes, happens, pushed, store, under, with_frames, with_store, leaves, passes}
 use Rattle.co_meaning_data.specs.Undefined.{is_no_block, is_no_room, not_suspended, not_taken_back, numbered}
-use Rattle.co_meaning_calls.specs.Calls.{border, call_acts, calls}
-use Rattle.co_meaning_calls.specs.Objects.{counted_in, endings, type_of_slot, with_raw}
-use Rattle.co_meaning_data.specs.Turn.{Local, frame_bytes, func_of, goes, happens, pushed, store, under, with_frames, with_store}
-use Rattle.co_meaning_calls.specs.Coroutines.{coroutines, set_condition, plan_of, func_span, is_noexcept_in, take_block, release_value, releases, take_call, takes_frame, ramp_takes, ramp_take, frame_room, without_storage, ramp_taken_by, ramp_taken, new_coroutine, draws, is_made, init_acts_here, ramp_copy_of, promise_in, promised_by, ctor_call, construct_promise, make_promise_in, make_promise_at, ramp_copies, ramp_made, ramp_result_by, ramp_result, await_acts, body_frames, body_begins, ramp_body_by, ramp_body, start_in, started, final_by, final_await, handled_by, guard_left, serial_now, escapes, escapes_from, unhandled_left, hold_left, closes, release_frame, has_ended, activation_of, resumed_by, resumed, above, instead, wakes, resume_faults, null_fault, resume_handle, transfer, destroyed_by, destroyed, destroy_handle, holder_in, held_as, ready_under, await_operand, reached, reached_at, await_resume, is_call, suspended_at, suspend_as, suspend, await_ready, taken_by, taken_in, take_back, is_zero, answer_bool, answered, answers, answer_left}
-use Rattle.co_core_tree.specs.declared.kinds.Answer.TheVariants as answer
-use Rattle.co_core_tree.specs.declared.kinds.GivePlan.TheVariants as give
-use Rattle.co_core_tree.specs.declared.kinds.TakePlan.TheVariants as take_plan
 use Rattle.co_meaning_data.specs.declared.events.Event.TheVariants as event
 use Rattle.co_meaning_data.specs.declared.values.Standing.TheVariants as standing
+use Rattle.co_meaning_data.specs.declared.values.Value.{Value}
 use Rattle.co_meaning_data.specs.declared.values.Value.TheVariants as value
-use Rattle.co_meaning_data.specs.Frames.{Doing, Kind}
-use Rattle.std.proofs.Common.{subst, sym}
-use Rattle.std.proofs.lemmas.Bool.{eqb-false, eqb-true}
-use Rattle.co_meaning_data.specs.Turn.{leaves, passes}
-use Rattle.co_meaning_calls.specs.Coroutines.{parked}
+use Rattle.co_meaning_calls.specs.Calls.{border, call_acts, calls}
+use Rattle.co_meaning_calls.specs.Coroutines.{coroutines, set_condition, plan_of, func_span, is_noexcept_in, take_block, release_value, releases, take_call, takes_frame, ramp_takes, ramp_take, frame_room, without_storage, ramp_taken_by, ramp_taken, new_coroutine, draws, is_made, init_acts_here, ramp_copy_of, promise_in, promised_by, ctor_call, construct_promise, make_promise_in, make_promise_at, ramp_copies, ramp_made, ramp_result_by, ramp_result, await_acts, body_frames, body_begins, ramp_body_by, ramp_body, start_in, started, final_by, final_await, handled_by, guard_left, serial_now, escapes, escapes_from, unhandled_left, hold_left, closes, release_frame, has_ended, activation_of, resumed_by, resumed, above, instead, wakes, resume_faults, null_fault, resume_handle, transfer, destroyed_by, destroyed, destroy_handle, holder_in, held_as, ready_under, await_operand, reached, reached_at, await_resume, is_call, suspended_at, suspend_as, suspend, await_ready, taken_by, taken_in, take_back, is_zero, answer_bool, answered, answers, answer_left, parked}
+use Rattle.co_meaning_calls.specs.Objects.{counted_in, endings, type_of_slot, with_raw}
+use Rattle.co_meaning_balance.proofs.Alive.{bare, births-add, deaths-add, ended-add, endings-alive, foreign, frames-none, reaches-alive}
+use Rattle.co_meaning_balance.proofs.CallsKeeps.{as-before, opens-keeps, returns-keeps}
+use Rattle.co_meaning_balance.proofs.CoroutinesOrder.{numbered-strays, with_list}
+use Rattle.co_meaning_balance.proofs.Frames.{reaches}
+use Rattle.co_meaning_balance.proofs.Numbered.{Moved, Same, apart-more, apart-other, draw, found, here-more, lacking, more-among, promised_by-same, set-moved, taken}
+use Rattle.co_meaning_balance.proofs.ObjectsKeeps.{ends-keeps, if-keeps, lives-keeps, unless-keeps, unseen_ends-keeps}
 use Rattle.co_meaning_balance.specs.Order.{condition_strays, coroutines_stray, frames_hold, frames_inner, frames_stray, is_other, needs, one_more, open_strays}
 use Rattle.co_meaning_balance.specs.Places.{Keeps, Kept, RestKept, activations_hold, condition_alive, condition_holds, coroutine_alive, coroutine_tokens, frames_alive, objects_alive, present}
-use Rattle.co_meaning_balance.proofs.Alive.{bare, births-add, deaths-add, ended-add, endings-alive, foreign, frames-none, reaches-alive}
-use Rattle.co_meaning_balance.proofs.CoroutinesOrder.{numbered-strays}
-use Rattle.co_meaning_balance.proofs.Frames.{reaches}
-use Rattle.co_meaning_balance.proofs.Numbered.{Moved, Same, apart-more, apart-other, draw, found, here-more, lacking, more-among, promised_by-same, set-moved, taken, with_list}
-use Rattle.co_meaning_balance.proofs.ObjectsKeeps.{ends-keeps, if-keeps, lives-keeps, unless-keeps, unseen_ends-keeps}
-use Rattle.co_meaning_balance.proofs.CallsKeeps.{as-before, opens-keeps, returns-keeps}
 
 module _ (number item limit owed : ℕ) where
-  pub take_block-keeps : (y0 : ℕ) (y1 : Local) → Kept number item limit owed y1 → Keeps number item limit owed (take_block y0 y1)
+  pub take_block-keeps : (words : ℕ) (l : Local) → Kept number item limit owed l → Keeps number item limit owed (take_block words l)
   take_block-keeps words l known = known
 
-  pub release_value-keeps : (y0 : Value) (y1 : Outcome) (y2 : Span) (y3 : Local) → Kept number item limit owed y3 → Keeps number item limit owed (release_value y0 y1 y2 y3)
+  pub release_value-keeps : (v : Value) (outcome : Outcome) (at : Span) (l : Local) → Kept number item limit owed l → Keeps number item limit owed (release_value v outcome at l)
   release_value-keeps (value.Block b) outcome at l known = known
   release_value-keeps v outcome at l known = tt
 
-  pub releases-keeps : (y0 : ℕ) (y1 : ℕ) (y2 : GivePlan) (y3 : Outcome) (y4 : Span) (y5 : Local) → Kept number item limit owed y5 → Keeps number item limit owed (releases y0 y1 y2 y3 y4 y5)
+  pub releases-keeps : (b : ℕ) (words : ℕ) (g : GivePlan) (outcome : Outcome) (at : Span) (l : Local) → Kept number item limit owed l → Keeps number item limit owed (releases b words g outcome at l)
   releases-keeps b words give.Global outcome at l known = unless-keeps number item limit owed (record { kind = U11; holds = is_no_block (store l) (coroutines l) (value.Block b) } ∷ []) at l (release_value (value.Block b) outcome at l) known (release_value-keeps (value.Block b) outcome at l known)
   releases-keeps b words (give.Own f) outcome at l known = (known.0, known.1, let enough = known.2 in omega (arith, enough))
   releases-keeps b words (give.OwnSized f) outcome at l known = (known.0, known.1, let enough = known.2 in omega (arith, enough))
 
-  pub takes_frame-keeps : (y0 : TakePlan) (y1 : List Init) (y2 : Local) → Kept number item limit owed y2 → Keeps number item limit owed (takes_frame y0 y1 y2)
+  pub takes_frame-keeps : (plan : TakePlan) (rest : List Init) (l : Local) → Kept number item limit owed l → Keeps number item limit owed (takes_frame plan rest l)
   takes_frame-keeps take_plan.Global rest l known = take_block-keeps (frame_bytes l / 8) l known
   takes_frame-keeps (take_plan.Own f) rest l known = known
   takes_frame-keeps (take_plan.OwnWith f) rest l known = opens-keeps number item limit owed (call_acts l (take_call f rest l)) (Calling (take_call f rest l) ∷ []) (Comes Passes) l known
 
-  pub ramp_takes-keeps : (y0 : Local) (y1 : Option PromisePlan) → Kept number item limit owed y0 → Keeps number item limit owed (ramp_takes y0 y1)
+  pub ramp_takes-keeps : (l : Local) (o : Option PromisePlan) → Kept number item limit owed l → Keeps number item limit owed (ramp_takes l o)
   ramp_takes-keeps l None known = tt
   ramp_takes-keeps l (Some plan) known = takes_frame-keeps plan.take plan.take_args (pushed RampTaken l) known
 
-  pub ramp_take-keeps : (y0 : Local) → Kept number item limit owed y0 → Keeps number item limit owed (ramp_take y0)
+  pub ramp_take-keeps : (l : Local) → Kept number item limit owed l → Keeps number item limit owed (ramp_take l)
   ramp_take-keeps l known = ramp_takes-keeps l (plan_of l) known
 
-  pub frame_room-keeps : (y0 : Value) (y1 : Local) → Kept number item limit owed y1 → Keeps number item limit owed (frame_room y0 y1)
+  pub frame_room-keeps : (v : Value) (l : Local) → Kept number item limit owed l → Keeps number item limit owed (frame_room v l)
   frame_room-keeps (value.Block b) l known = known
   frame_room-keeps v l known = tt
 
-  pub without_storage-keeps : (y0 : Option FuncId) (y1 : Value) (y2 : Local) → Kept number item limit owed y2 → Keeps number item limit owed (without_storage y0 y1 y2)
+  pub without_storage-keeps : (on_null : Option FuncId) (v : Value) (l : Local) → Kept number item limit owed l → Keeps number item limit owed (without_storage on_null v l)
   without_storage-keeps (Some f) value.Null l known = known
   without_storage-keeps on_null v l known = unless-keeps number item limit owed (record { kind = U10; holds = is_no_room (store l) (coroutines l) (frame_bytes l / 8) v } ∷ []) (func_span l) l (frame_room v l) known (frame_room-keeps v l known)
 
-  pub ramp_taken_by-keeps : (y0 : Value) (y1 : Local) (y2 : Option PromisePlan) → Kept number item limit owed y1 → Keeps number item limit owed (ramp_taken_by y0 y1 y2)
+  pub ramp_taken_by-keeps : (v : Value) (l : Local) (o : Option PromisePlan) → Kept number item limit owed l → Keeps number item limit owed (ramp_taken_by v l o)
   ramp_taken_by-keeps v l None known = tt
   ramp_taken_by-keeps v l (Some plan) known = without_storage-keeps plan.on_null v l known
 
-  pub ramp_taken-keeps : (y0 : Value) (y1 : Local) → Kept number item limit owed y1 → Keeps number item limit owed (ramp_taken y0 y1)
+  pub ramp_taken-keeps : (v : Value) (l : Local) → Kept number item limit owed l → Keeps number item limit owed (ramp_taken v l)
   ramp_taken-keeps v l known = ramp_taken_by-keeps v l (plan_of l) known
 
   -- the frames of the newest activation hold and keep nothing
@@ -94,8 +90,8 @@ module _ (number item limit owed : ℕ) where
   border-none true = (refl, refl)
   border-none false = (refl, refl)
 
-  suspended-none : (point serial : ℕ) (rest : Continuation) → (condition_holds number item (suspended_at point serial rest) ≡ frames_hold (Some number) rest.frames) × (condition_alive number item (suspended_at point serial rest) ≡ frames_alive number item rest.frames)
-  suspended-none point serial rest = go (point == 1)
+  suspended-held : (point serial : ℕ) (rest : Continuation) → (condition_holds number item (suspended_at point serial rest) ≡ frames_hold (Some number) rest.frames) × (condition_alive number item (suspended_at point serial rest) ≡ frames_alive number item rest.frames)
+  suspended-held point serial rest = go (point == 1)
     where
       go : (c : Bool) → (condition_holds number item (if c then Final point serial rest else Suspended point serial rest) ≡ frames_hold (Some number) rest.frames) × (condition_alive number item (if c then Final point serial rest else Suspended point serial rest) ≡ frames_alive number item rest.frames)
       go true = (refl, refl)
@@ -127,11 +123,11 @@ module _ (number item limit owed : ℕ) where
       let enough = known.2 in
       (known.0, omega (arith, one, two, over, once), omega (arith, born, died, enough))
 
-  pub ramp_copy_of-keeps : (y0 : CopyPlan) (y1 : List CopyPlan) (y2 : Local) (y3 : Option CoType) → Kept number item limit owed y2 → Keeps number item limit owed (ramp_copy_of y0 y1 y2 y3)
+  pub ramp_copy_of-keeps : (copy : CopyPlan) (rest : List CopyPlan) (l : Local) (o : Option CoType) → Kept number item limit owed l → Keeps number item limit owed (ramp_copy_of copy rest l o)
   ramp_copy_of-keeps copy rest l None known = tt
   ramp_copy_of-keeps copy rest l (Some of) known = opens-keeps number item limit owed (init_acts_here (pushed (RampCopies rest) (with_raw copy.to.0 of (counted_in l of) l)) copy.init) (RampMade (record { object = (next_object (store l)); coroutine = counted_in l of }) ∷ []) (Initialize copy.init (Some (whole (next_object (store l))))) (pushed (RampCopies rest) (with_raw copy.to.0 of (counted_in l of) l)) known
 
-  pub construct_promise-keeps : (y0 : PromisePlan) (y1 : Alive) (y2 : Local) (y3 : Option FuncId) → Kept number item limit owed y2 → Keeps number item limit owed (construct_promise y0 y1 y2 y3)
+  pub construct_promise-keeps : (plan : PromisePlan) (x : Alive) (l : Local) (o : Option FuncId) → Kept number item limit owed l → Keeps number item limit owed (construct_promise plan x l o)
   construct_promise-keeps plan x l None known = known
   construct_promise-keeps plan x l (Some f) known = opens-keeps number item limit owed (call_acts l (ctor_call f plan.with_params plan.ctor_args x.object l)) (Calling (ctor_call f plan.with_params plan.ctor_args x.object l) ∷ Drops ∷ RampMade x ∷ []) (Comes Passes) l known
 
@@ -155,22 +151,22 @@ module _ (number item limit owed : ℕ) where
   make_promise_in-keeps plan slot l (Some of) known =
       promise_made-keeps plan (record { object = next_object (store l); coroutine = counted_in l of }) (with_raw slot of (counted_in l of) l) (promised_by (next_object (store l)) (with_raw slot of (counted_in l of) l) l.top.coroutine) (promised_by-same number item (next_object (store l)) (with_raw slot of (counted_in l of) l) l.top.coroutine) known
 
-  pub make_promise_at-keeps : (y0 : Local) (y1 : Option PromisePlan) (y2 : Option ℕ) → Kept number item limit owed y0 → Keeps number item limit owed (make_promise_at y0 y1 y2)
+  pub make_promise_at-keeps : (l : Local) (plan : Option PromisePlan) (slot : Option ℕ) → Kept number item limit owed l → Keeps number item limit owed (make_promise_at l plan slot)
   make_promise_at-keeps l (Some plan) (Some slot) known = make_promise_in-keeps plan slot l (type_of_slot l slot) known
   make_promise_at-keeps l plan slot known = tt
 
-  pub ramp_copies-keeps : (y0 : List CopyPlan) (y1 : Local) → Kept number item limit owed y1 → Keeps number item limit owed (ramp_copies y0 y1)
+  pub ramp_copies-keeps : (list : List CopyPlan) (l : Local) → Kept number item limit owed l → Keeps number item limit owed (ramp_copies list l)
   ramp_copies-keeps (copy ∷ rest) l known = ramp_copy_of-keeps copy rest l (type_of_slot l copy.to.0) known
   ramp_copies-keeps [] l known = make_promise_at-keeps l (plan_of l) (promise_in (func_of l)) known
 
-  pub ramp_made-keeps : (y0 : Alive) (y1 : Local) → Kept number item limit owed y1 → Keeps number item limit owed (ramp_made y0 y1)
+  pub ramp_made-keeps : (x : Alive) (l : Local) → Kept number item limit owed l → Keeps number item limit owed (ramp_made x l)
   ramp_made-keeps x l known = lives-keeps number item limit owed x InHold Passes l known
 
-  pub ramp_result_by-keeps : (y0 : Local) (y1 : Option PromisePlan) → Kept number item limit owed y0 → Keeps number item limit owed (ramp_result_by y0 y1)
+  pub ramp_result_by-keeps : (l : Local) (o : Option PromisePlan) → Kept number item limit owed l → Keeps number item limit owed (ramp_result_by l o)
   ramp_result_by-keeps l None known = tt
   ramp_result_by-keeps l (Some plan) known = known
 
-  pub ramp_result-keeps : (y0 : Local) → Kept number item limit owed y0 → Keeps number item limit owed (ramp_result y0)
+  pub ramp_result-keeps : (l : Local) → Kept number item limit owed l → Keeps number item limit owed (ramp_result l)
   ramp_result-keeps l known = ramp_result_by-keeps l (plan_of l) known
 
   body_begins-keeps : (plan : PromisePlan) (hold : Hold) (l : Local) → frames_inner l.top.frames ≤ 0 → Kept number item limit owed (pushed (Holds hold) l) → Keeps number item limit owed (body_begins plan hold l)
@@ -195,25 +191,25 @@ module _ (number item limit owed : ℕ) where
   pub ramp_body-keeps : (l : Local) → frames_stray l.top.coroutine l.top.frames ≤ 0 → Kept number item limit owed l → Keeps number item limit owed (ramp_body l)
   ramp_body-keeps l order known = ramp_body_by-keeps l.top.frames l (plan_of l) order known
 
-  pub start_in-keeps : (y0 : Local) (y1 : Option CoreFunc) → Kept number item limit owed y0 → Keeps number item limit owed (start_in y0 y1)
+  pub start_in-keeps : (l : Local) (o : Option CoreFunc) → Kept number item limit owed l → Keeps number item limit owed (start_in l o)
   start_in-keeps l None known = tt
   start_in-keeps l (Some func) known = known
 
-  pub started-keeps : (y0 : Local) → Kept number item limit owed y0 → Keeps number item limit owed (started y0)
+  pub started-keeps : (l : Local) → Kept number item limit owed l → Keeps number item limit owed (started l)
   started-keeps l known = start_in-keeps l (func_of l) known
 
-  pub final_by-keeps : (y0 : Local) (y1 : Option PromisePlan) → Kept number item limit owed y0 → Keeps number item limit owed (final_by y0 y1)
+  pub final_by-keeps : (l : Local) (o : Option PromisePlan) → Kept number item limit owed l → Keeps number item limit owed (final_by l o)
   final_by-keeps l None known = tt
   final_by-keeps l (Some plan) known = opens-keeps number item limit owed (await_acts l plan.last) [] (Awaits plan.last None) (pushed Drops l) known
 
-  pub final_await-keeps : (y0 : Local) → Kept number item limit owed y0 → Keeps number item limit owed (final_await y0)
+  pub final_await-keeps : (l : Local) → Kept number item limit owed l → Keeps number item limit owed (final_await l)
   final_await-keeps l known = final_by-keeps l (plan_of l) known
 
-  pub handled_by-keeps : (y0 : Thrown) (y1 : Local) (y2 : Option PromisePlan) → Kept number item limit owed y1 → Keeps number item limit owed (handled_by y0 y1 y2)
+  pub handled_by-keeps : (v : Thrown) (l : Local) (o : Option PromisePlan) → Kept number item limit owed l → Keeps number item limit owed (handled_by v l o)
   handled_by-keeps v l None known = tt
   handled_by-keeps v l (Some plan) known = known
 
-  pub guard_left-keeps : (y0 : Bool) (y1 : Going) (y2 : Local) → Kept number item limit owed y2 → Keeps number item limit owed (guard_left y0 y1 y2)
+  pub guard_left-keeps : (resumed : Bool) (going : Going) (l : Local) → Kept number item limit owed l → Keeps number item limit owed (guard_left resumed going l)
   guard_left-keeps resumed Leaving l known = final_await-keeps l known
   guard_left-keeps true (Throwing v) l known = handled_by-keeps v l (plan_of l) known
   guard_left-keeps resumed going l known = known
@@ -275,9 +271,6 @@ module _ (number item limit owed : ℕ) where
   closing : (m b : ℕ) (outcome : Outcome) (l k : Local) (moved : Moved number item m Over l k) → Kept number item limit owed (pushed (Closes m b outcome) l) → Keeps number item limit owed (goes (HasEnded m b outcome) (with_list moved.list l))
   closing m b outcome l k moved known = go (number == m) refl
     where
-      others : ℕ
-      others = activations_hold number item (l.top ∷ l.below) + coroutine_tokens number item (numbered moved.list number)
-
       go : (c : Bool) → (number == m) ≡ c → Keeps number item limit owed (goes (HasEnded m b outcome) (with_list moved.list l))
       go true f =
           let more = here-more number m (frames_hold (Some number) l.top.frames) f in
@@ -306,7 +299,7 @@ module _ (number item limit owed : ℕ) where
       let moved = set-moved number item m Over (with_store (set_standing b standing.Nothing (store l)) l) in
       subst (λ k. Keeps number item limit owed (goes (HasEnded m b outcome) k)) (sym moved.is) (closing m b outcome (with_store (set_standing b standing.Nothing (store l)) l) (set_condition m Over (with_store (set_standing b standing.Nothing (store l)) l)) moved known)
 
-  pub release_frame-keeps : (y0 : ℕ) (y1 : Outcome) (y2 : Local) (y3 : Option PromisePlan) → Kept number item limit owed y2 → Keeps number item limit owed (release_frame y0 y1 y2 y3)
+  pub release_frame-keeps : (b : ℕ) (outcome : Outcome) (l : Local) (o : Option PromisePlan) → Kept number item limit owed l → Keeps number item limit owed (release_frame b outcome l o)
   release_frame-keeps b outcome l None known = tt
   release_frame-keeps b outcome l (Some plan) known = known
 
@@ -439,7 +432,7 @@ module _ (number item limit owed : ℕ) where
       let serial = suc (serial_now m l) in
       let rest : Continuation = record { slots = l.top.slots; frames = AwaitResume plan into ∷ l.top.frames } in
       let moved = set-moved number item m (suspended_at plan.point.0 serial rest) l in
-      let there = suspended-none plan.point.0 serial rest in
+      let there = suspended-held plan.point.0 serial rest in
       let parks = new serial in
       subst (λ k. Keeps number item limit owed (goes (Comes outcome) (record k { top = parked m serial plan own frames l }))) (sym moved.is)
       (leaves-frames m (suspended_at plan.point.0 serial rest) l (set_condition m (suspended_at plan.point.0 serial rest) l) (parked m serial plan own frames l) e order there.0 there.1 parks.0 parks.1 moved known)

@@ -1,5 +1,6 @@
 -- Coroutines keep the frames in order.
-use Rattle.std.proofs.Common.{◌≡◌, ℕ, zero, suc, ◌+◌, ◌≤◌, List, [], ◌∷◌, ◌++◌, Bool, true, false, Some, None, refl, ap, arith, length}
+use Rattle.std.proofs.Common.{◌≡◌, ℕ, zero, suc, ◌+◌, ◌≤◌, List, [], ◌∷◌, ◌++◌, Bool, true, false, Some, None, refl, ap, arith, length, sym, subst}
+use Rattle.std.proofs.lemmas.Option.{none-some}
 use Rattle.std.specs.Prelude.{◌/◌, ◌==◌, if◌then◌else◌, slice_get, slice_set, Option}
 use Rattle.co_base.specs.declared.ids.FuncId.{FuncId}
 use Rattle.co_base.specs.declared.kinds.Thrown.{Thrown}
@@ -9,33 +10,29 @@ use Rattle.co_types.specs.declared.types.CoType.{CoType}
 use Rattle.co_core_tree.specs.declared.exprs.AwaitPlan.{AwaitPlan}
 use Rattle.co_core_tree.specs.declared.exprs.Init.{Init}
 use Rattle.co_core_tree.specs.declared.kinds.Answer.{Answer}
+use Rattle.co_core_tree.specs.declared.kinds.Answer.TheVariants as answer
 use Rattle.co_core_tree.specs.declared.kinds.GivePlan.{GivePlan}
+use Rattle.co_core_tree.specs.declared.kinds.GivePlan.TheVariants as give
 use Rattle.co_core_tree.specs.declared.kinds.TakePlan.{TakePlan}
+use Rattle.co_core_tree.specs.declared.kinds.TakePlan.TheVariants as take_plan
 use Rattle.co_core_tree.specs.declared.units.CopyPlan.{CopyPlan}
 use Rattle.co_core_tree.specs.declared.units.CoreFunc.{CoreFunc}
 use Rattle.co_core_tree.specs.declared.units.PromisePlan.{PromisePlan}
-use Rattle.co_meaning_data.specs.declared.values.Value.{Value}
 use Rattle.co_meaning_data.specs.Frames.{Alive, InHold, Activation, Answers, At, AwaitResume, AwaitSuspend, Awaits, Calling, Comes, Condition, Continuation, Coroutine, Destroying, Drops, Evaluate, Final, Frame, Given, Gives, Goes, Going, HasEnded, Hold, Holds, Initialize, Leaving, Nothing, OfBody, OfDestroy, Outcome, Over, Passes, RampCopies, RampDone, RampMade, RampResult, RampTaken, Running, Scalar, Suspended, Throwing}
 use Rattle.co_meaning_data.specs.Store.{Place, next_object, set_standing, whole}
+use Rattle.co_meaning_data.specs.Turn.{Local, frame_bytes, func_of, goes, happens, pushed, store, under, with_frames, with_store, leaves, passes}
 use Rattle.co_meaning_data.specs.Undefined.{is_no_block, is_no_room, not_suspended, not_taken_back, numbered}
-use Rattle.co_meaning_calls.specs.Calls.{border, call_acts, calls}
-use Rattle.co_meaning_calls.specs.Objects.{unseen_endings, counted_in, type_of_slot, with_raw}
-use Rattle.co_meaning_data.specs.Turn.{Local, frame_bytes, func_of, goes, happens, pushed, store, under, with_frames, with_store}
-use Rattle.co_meaning_calls.specs.Coroutines.{coroutines, with_coroutine, conditioned, set_condition, plan_of, func_span, is_noexcept_in, take_block, release_value, releases, take_call, takes_frame, ramp_takes, ramp_take, frame_room, without_storage, ramp_taken_by, ramp_taken, new_coroutine, draws, is_made, init_acts_here, ramp_copy_of, promise_in, promised, promised_by, ctor_call, construct_promise, make_promise_in, make_promise_at, ramp_copies, ramp_made, ramp_result_by, ramp_result, await_acts, body_frames, body_begins, ramp_body_by, ramp_body, start_in, started, final_by, final_await, handled_by, guard_left, serial_now, escapes, escapes_from, unhandled_left, hold_left, closes, release_frame, has_ended, activation_of, resumed_by, resumed, above, instead, wakes, resume_faults, null_fault, resume_handle, transfer, destroyed_by, destroyed, destroy_handle, holder_in, held_as, ready_under, await_operand, reached_at, await_resume, is_call, suspended_at, suspend_as, suspend, await_ready, taken_by, taken_in, take_back, is_zero, answer_bool, answered, answers, answer_left}
-use Rattle.std.proofs.lemmas.Option.{none-some}
-use Rattle.co_core_tree.specs.declared.kinds.Answer.TheVariants as answer
-use Rattle.co_core_tree.specs.declared.kinds.GivePlan.TheVariants as give
-use Rattle.co_core_tree.specs.declared.kinds.TakePlan.TheVariants as take_plan
 use Rattle.co_meaning_data.specs.declared.events.Event.TheVariants as event
 use Rattle.co_meaning_data.specs.declared.values.Standing.TheVariants as standing
+use Rattle.co_meaning_data.specs.declared.values.Value.{Value}
 use Rattle.co_meaning_data.specs.declared.values.Value.TheVariants as value
-use Rattle.co_meaning_data.specs.Turn.{leaves, passes}
-use Rattle.co_meaning_calls.specs.Coroutines.{parked}
-use Rattle.std.proofs.Common.{sym, subst}
-use Rattle.co_meaning_balance.specs.Order.{InOrder, condition_strays, coroutines_stray, frames_hold, frames_inner, frames_stray, is_other, local_strays, made_strays, needs, open_strays, rest_strays}
+use Rattle.co_meaning_calls.specs.Calls.{border, call_acts, calls}
+use Rattle.co_meaning_calls.specs.Coroutines.{coroutines, with_coroutine, conditioned, set_condition, plan_of, func_span, is_noexcept_in, take_block, release_value, releases, take_call, takes_frame, ramp_takes, ramp_take, frame_room, without_storage, ramp_taken_by, ramp_taken, new_coroutine, draws, is_made, init_acts_here, ramp_copy_of, promise_in, promised, promised_by, ctor_call, construct_promise, make_promise_in, make_promise_at, ramp_copies, ramp_made, ramp_result_by, ramp_result, await_acts, body_frames, body_begins, ramp_body_by, ramp_body, start_in, started, final_by, final_await, handled_by, guard_left, serial_now, escapes, escapes_from, unhandled_left, hold_left, closes, release_frame, has_ended, activation_of, resumed_by, resumed, above, instead, wakes, resume_faults, null_fault, resume_handle, transfer, destroyed_by, destroyed, destroy_handle, holder_in, held_as, ready_under, await_operand, reached_at, await_resume, is_call, suspended_at, suspend_as, suspend, await_ready, taken_by, taken_in, take_back, is_zero, answer_bool, answered, answers, answer_left, parked}
+use Rattle.co_meaning_calls.specs.Objects.{unseen_endings, counted_in, type_of_slot, with_raw}
+use Rattle.co_meaning_balance.proofs.CallsOrder.{opens-order, returns-order}
 use Rattle.co_meaning_balance.proofs.Frames.{around-strays, borders, border-strays, counts, few, holding, itself, reaches}
 use Rattle.co_meaning_balance.proofs.ObjectsOrder.{ends-order, if-order, lives-order, unless-order}
-use Rattle.co_meaning_balance.proofs.CallsOrder.{opens-order, returns-order}
+use Rattle.co_meaning_balance.specs.Order.{InOrder, condition_strays, coroutines_stray, frames_hold, frames_inner, frames_stray, is_other, local_strays, made_strays, needs, open_strays, rest_strays}
 
 -- ---- the coroutines
 
@@ -62,7 +59,7 @@ joined-strays [] m c e = let none = ap (condition_strays m) e in omega (arith, n
 joined-strays (d ∷ cs) m c e = let rest = joined-strays cs (suc m) c e in omega (arith, rest)
 
 -- a state in which only the list of the coroutines is another
-abbrev with_list : List Coroutine → Local → Local
+abbrev pub with_list : List Coroutine → Local → Local
 with_list cs l = record l { shared = record l.shared { coroutines = cs } }
 
 record Changed (more : ℕ) (l k : Local) : Type 0 where
@@ -136,11 +133,11 @@ wakes-order n l known = resumed-order n l (numbered (coroutines l) n) refl known
 pub take_block-order : (words : ℕ) (l : Local) → local_strays l ≤ 0 → InOrder (take_block words l)
 take_block-order words l known = omega (arith, known)
 
-pub release_value-order : (y0 : Value) (y1 : Outcome) (y2 : Span) (y3 : Local) → local_strays y3 ≤ 0 → InOrder (release_value y0 y1 y2 y3)
+pub release_value-order : (v : Value) (outcome : Outcome) (at : Span) (l : Local) → local_strays l ≤ 0 → InOrder (release_value v outcome at l)
 release_value-order (value.Block b) outcome at l known = omega (arith, known)
 release_value-order v outcome at l known = tt
 
-pub releases-order : (y0 : ℕ) (y1 : ℕ) (y2 : GivePlan) (y3 : Outcome) (y4 : Span) (y5 : Local) → local_strays y5 ≤ 0 → InOrder (releases y0 y1 y2 y3 y4 y5)
+pub releases-order : (b : ℕ) (words : ℕ) (g : GivePlan) (outcome : Outcome) (at : Span) (l : Local) → local_strays l ≤ 0 → InOrder (releases b words g outcome at l)
 releases-order b words give.Global outcome at l known = unless-order (record { kind = U11; holds = is_no_block (store l) (coroutines l) (value.Block b) } ∷ []) at l (release_value (value.Block b) outcome at l) (omega (arith, known)) (release_value-order (value.Block b) outcome at l (omega (arith, known)))
 releases-order b words (give.Own f) outcome at l known = omega (arith, known)
 releases-order b words (give.OwnSized f) outcome at l known = omega (arith, known)
@@ -207,22 +204,22 @@ make_promise_in-order plan slot l (Some of) known =
     let made = counts l of (frames_hold l.top.coroutine l.top.frames) in
     promise_made-order plan (record { object = next_object (store l); coroutine = counted_in l of }) (with_raw slot of (counted_in l of) l) (promised_by (next_object (store l)) (with_raw slot of (counted_in l of) l) l.top.coroutine) (promised_by-changed (next_object (store l)) (with_raw slot of (counted_in l of) l) l.top.coroutine) (omega (arith, known, made))
 
-pub make_promise_at-order : (y0 : Local) (y1 : Option PromisePlan) (y2 : Option ℕ) → open_strays y0 ≤ 0 → InOrder (make_promise_at y0 y1 y2)
+pub make_promise_at-order : (l : Local) (plan : Option PromisePlan) (slot : Option ℕ) → open_strays l ≤ 0 → InOrder (make_promise_at l plan slot)
 make_promise_at-order l (Some plan) (Some slot) known = make_promise_in-order plan slot l (type_of_slot l slot) (omega (arith, known))
 make_promise_at-order l plan slot known = tt
 
-pub ramp_copies-order : (y0 : List CopyPlan) (y1 : Local) → open_strays y1 ≤ 0 → InOrder (ramp_copies y0 y1)
+pub ramp_copies-order : (list : List CopyPlan) (l : Local) → open_strays l ≤ 0 → InOrder (ramp_copies list l)
 ramp_copies-order (copy ∷ rest) l known = ramp_copy_of-order copy rest l (type_of_slot l copy.to.0) (omega (arith, known))
 ramp_copies-order [] l known = make_promise_at-order l (plan_of l) (promise_in (func_of l)) (omega (arith, known))
 
 pub ramp_made-order : (y : Alive) (l : Local) → made_strays y l ≤ 0 → InOrder (ramp_made y l)
 ramp_made-order y l known = lives-order y InHold Passes l known
 
-pub ramp_result_by-order : (y0 : Local) (y1 : Option PromisePlan) → open_strays y0 ≤ 0 → InOrder (ramp_result_by y0 y1)
+pub ramp_result_by-order : (l : Local) (o : Option PromisePlan) → open_strays l ≤ 0 → InOrder (ramp_result_by l o)
 ramp_result_by-order l None known = tt
 ramp_result_by-order l (Some plan) known = omega (arith, known)
 
-pub ramp_result-order : (y0 : Local) → open_strays y0 ≤ 0 → InOrder (ramp_result y0)
+pub ramp_result-order : (l : Local) → open_strays l ≤ 0 → InOrder (ramp_result l)
 ramp_result-order l known = ramp_result_by-order l (plan_of l) (omega (arith, known))
 
 body_begins-order : (plan : PromisePlan) (hold : Hold) (l : Local) → is_other l.top.coroutine hold.coroutine + local_strays l ≤ 0 → InOrder (body_begins plan hold l)
@@ -240,25 +237,25 @@ ramp_body_by-order fs l plan known = tt
 pub ramp_body-order : (l : Local) → local_strays l ≤ 0 → InOrder (ramp_body l)
 ramp_body-order l known = ramp_body_by-order l.top.frames l (plan_of l) known
 
-pub start_in-order : (y0 : Local) (y1 : Option CoreFunc) → open_strays y0 ≤ 0 → InOrder (start_in y0 y1)
+pub start_in-order : (l : Local) (o : Option CoreFunc) → open_strays l ≤ 0 → InOrder (start_in l o)
 start_in-order l None known = tt
 start_in-order l (Some func) known = omega (arith, known)
 
-pub started-order : (y0 : Local) → open_strays y0 ≤ 0 → InOrder (started y0)
+pub started-order : (l : Local) → open_strays l ≤ 0 → InOrder (started l)
 started-order l known = start_in-order l (func_of l) (omega (arith, known))
 
-pub final_by-order : (y0 : Local) (y1 : Option PromisePlan) → open_strays y0 ≤ 0 → InOrder (final_by y0 y1)
+pub final_by-order : (l : Local) (o : Option PromisePlan) → open_strays l ≤ 0 → InOrder (final_by l o)
 final_by-order l None known = tt
 final_by-order l (Some plan) known = opens-order (await_acts l plan.last) [] (Awaits plan.last None) (pushed Drops l) (λ us. omega (arith, known))
 
-pub final_await-order : (y0 : Local) → open_strays y0 ≤ 0 → InOrder (final_await y0)
+pub final_await-order : (l : Local) → open_strays l ≤ 0 → InOrder (final_await l)
 final_await-order l known = final_by-order l (plan_of l) (omega (arith, known))
 
-pub handled_by-order : (y0 : Thrown) (y1 : Local) (y2 : Option PromisePlan) → open_strays y1 ≤ 0 → InOrder (handled_by y0 y1 y2)
+pub handled_by-order : (v : Thrown) (l : Local) (o : Option PromisePlan) → open_strays l ≤ 0 → InOrder (handled_by v l o)
 handled_by-order v l None known = tt
 handled_by-order v l (Some plan) known = omega (arith, known)
 
-pub guard_left-order : (y0 : Bool) (y1 : Going) (y2 : Local) → open_strays y2 ≤ 0 → InOrder (guard_left y0 y1 y2)
+pub guard_left-order : (resumed : Bool) (going : Going) (l : Local) → open_strays l ≤ 0 → InOrder (guard_left resumed going l)
 guard_left-order resumed Leaving l known = final_await-order l (omega (arith, known))
 guard_left-order true (Throwing v) l known = handled_by-order v l (plan_of l) (omega (arith, known))
 guard_left-order resumed going l known = omega (arith, known)
@@ -289,11 +286,11 @@ closes-order n b outcome l known =
     let fits = set.fits in
     subst (λ k. InOrder (goes (HasEnded n b outcome) k)) (sym set.is) (omega (arith, known, fits))
 
-pub release_frame-order : (y0 : ℕ) (y1 : Outcome) (y2 : Local) (y3 : Option PromisePlan) → local_strays y2 ≤ 0 → InOrder (release_frame y0 y1 y2 y3)
+pub release_frame-order : (b : ℕ) (outcome : Outcome) (l : Local) (o : Option PromisePlan) → local_strays l ≤ 0 → InOrder (release_frame b outcome l o)
 release_frame-order b outcome l None known = tt
 release_frame-order b outcome l (Some plan) known = omega (arith, known)
 
-pub has_ended-order : (y0 : ℕ) (y1 : ℕ) (y2 : Outcome) (y3 : Local) → local_strays y3 ≤ 0 → InOrder (has_ended y0 y1 y2 y3)
+pub has_ended-order : (n : ℕ) (b : ℕ) (outcome : Outcome) (l : Local) → local_strays l ≤ 0 → InOrder (has_ended n b outcome l)
 has_ended-order n b outcome l known = release_frame-order b outcome (happens (event.Ended n) l) (plan_of l) (omega (arith, known))
 
 above-order : (l : Local) (woken : Option (Activation × Local)) → IfWoken l woken → local_strays l ≤ 0 → InOrder (above woken)
@@ -410,11 +407,11 @@ taken_in-order n outcome l (Some c) e known = let found = numbered-strays n c l.
 take_back-order : (n serial : ℕ) (outcome : Outcome) (at : Span) (l : Local) → local_strays l ≤ 0 → InOrder (take_back n serial outcome at l)
 take_back-order n serial outcome at l known = unless-order (record { kind = U1; holds = not_taken_back (coroutines l) n serial } ∷ []) at l (taken_in n outcome l (numbered (coroutines l) n)) known (taken_in-order n outcome l (numbered (coroutines l) n) refl (omega (arith, known)))
 
-pub answer_bool-order : (y0 : Bool) (y1 : ℕ) (y2 : ℕ) (y3 : Span) (y4 : Local) → local_strays y4 ≤ 0 → InOrder (answer_bool y0 y1 y2 y3 y4)
+pub answer_bool-order : (true : Bool) (n : ℕ) (serial : ℕ) (at : Span) (l : Local) → local_strays l ≤ 0 → InOrder (answer_bool true n serial at l)
 answer_bool-order true n serial at l known = take_back-order n serial Passes at l (omega (arith, known))
 answer_bool-order false n serial at l known = returns-order Nothing l (omega (arith, known))
 
-pub answered-order : (y0 : ℕ) (y1 : ℕ) (y2 : Answer) (y3 : Given) (y4 : Span) (y5 : Local) → local_strays y5 ≤ 0 → InOrder (answered y0 y1 y2 y3 y4 y5)
+pub answered-order : (n : ℕ) (serial : ℕ) (a : Answer) (g : Given) (at : Span) (l : Local) → local_strays l ≤ 0 → InOrder (answered n serial a g at l)
 answered-order n serial answer.Void g at l known = returns-order Nothing l (omega (arith, known))
 answered-order n serial answer.Bool (Scalar (value.Number k z)) at l known = answer_bool-order (is_zero z) n serial at l (omega (arith, known))
 answered-order n serial answer.Handle (Scalar v) at l known = transfer-order v at l (omega (arith, known))

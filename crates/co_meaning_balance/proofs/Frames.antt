@@ -1,8 +1,8 @@
 -- Frames that are changed, and still hold and stand as before.
 use Rattle.std.proofs.Common.{◌≡◌, ℕ, suc, ◌≤◌, List, [], ◌∷◌, Bool, true, false, Some, None, refl, ap, arith}
 use Rattle.std.proofs.lemmas.Bool.{eq-eqb}
-use Rattle.std.specs.Prelude.{◌==◌, if◌then◌else◌, Option}
 use Rattle.std.specs.Option.{option_map}
+use Rattle.std.specs.Prelude.{◌==◌, if◌then◌else◌, Option}
 use Rattle.co_types.specs.declared.types.CoType.{CoType}
 use Rattle.co_core_tree.specs.Slots.{is_class}
 use Rattle.co_core_tree.specs.declared.exprs.AwaitPlan.{AwaitPlan}

@@ -7,9 +7,10 @@ use Rattle.co_meaning_data.specs.Frames.{Condition, Continuation, Coroutine, Run
 use Rattle.co_meaning_data.specs.Turn.{Local}
 use Rattle.co_meaning_data.specs.Undefined.{numbered}
 use Rattle.co_meaning_calls.specs.Coroutines.{conditioned, promised, promised_by, set_condition, with_coroutine}
+use Rattle.co_meaning_balance.proofs.Alive.{condition-none, foreign}
 use Rattle.co_meaning_balance.specs.Order.{frames_hold, frames_stray, is_other, lacks, one_more}
 use Rattle.co_meaning_balance.specs.Places.{condition_alive, condition_holds, coroutine_alive, coroutine_tokens, frames_alive}
-use Rattle.co_meaning_balance.proofs.Alive.{condition-none, foreign}
+use Rattle.co_meaning_balance.proofs.CoroutinesOrder.{with_list}
 
 set-here : (cs : List Coroutine) (i : ℕ) (new old : Coroutine) → slice_get cs i ≡ Some old → slice_get (slice_set cs i new) i ≡ Some new
 set-here [] i new old e = absurd (none-some old e)
@@ -36,10 +37,6 @@ join-else [] c zero apart = absurd (apart refl)
 join-else [] c (suc j) apart = refl
 join-else (d ∷ cs) c zero apart = refl
 join-else (d ∷ cs) c (suc j) apart = join-else cs c j (λ e. apart (ap (λ k. suc k) e))
-
--- a state in which only the list of the coroutines is another
-abbrev pub with_list : List Coroutine → Local → Local
-with_list cs l = record l { shared = record l.shared { coroutines = cs } }
 
 pub apart-more : (n m held : ℕ) → (n == m) ≡ false → one_more (Some n) m held ≡ held
 apart-more n m held e = ap (λ b. if b then suc held else held) e
@@ -119,9 +116,6 @@ module _ (number item : ℕ) where
   pub draw : (cs : List Coroutine) (c : Coroutine) → c.condition ≡ Running 0 → (one_more (Some number) (suc (length cs)) (coroutine_tokens number item (numbered (cs ++ c ∷ []) number)) ≡ coroutine_tokens number item (numbered cs number)) × (coroutine_alive number item (numbered (cs ++ c ∷ []) number) ≡ coroutine_alive number item (numbered cs number))
   draw cs c running = go (number == suc (length cs)) refl
     where
-      after : ℕ
-      after = coroutine_tokens number item (numbered (cs ++ c ∷ []) number)
-
       other : (n : ℕ) → (n ≡ suc (length cs) → ⊥) → numbered (cs ++ c ∷ []) n ≡ numbered cs n
       other zero differ = refl
       other (suc j) differ = join-else cs c j (λ e. differ (ap (λ k. suc k) e))

@@ -1,26 +1,21 @@
 -- The making and the ends of objects lose none.
-use Rattle.std.proofs.Common.{◌≡◌, ℕ, ◌≤◌, List, [], ◌∷◌, Some, None, refl, ap, arith}
-use Rattle.std.specs.Prelude.{Option}
+use Rattle.std.proofs.Common.{◌≡◌, ℕ, ◌≤◌, List, [], ◌∷◌, Some, None, refl, ap, arith, inl, true, false, Bool}
+use Rattle.std.specs.Prelude.{Option, if◌then◌else◌}
 use Rattle.co_base.specs.declared.ids.FuncId.{FuncId}
-use Rattle.co_meaning_data.specs.Frames.{Alive, Spot, Ending, Ends, EndsObject, Frame, EndsPart, Outcome, PassesMark}
+use Rattle.co_base.specs.declared.kinds.Thrown.{Thrown}
+use Rattle.co_base.specs.declared.kinds.Undef.{Undef}
+use Rattle.co_base.specs.declared.span.Span.{Span}
+use Rattle.co_meaning_data.specs.Frames.{Alive, Spot, Ending, Ends, EndsObject, Frame, EndsPart, Outcome, PassesMark, Full, Scope, Temporal}
 use Rattle.co_meaning_data.specs.Store.{Place, end_object, make_live, type_at, whole}
-use Rattle.co_meaning_data.specs.Turn.{Local, classes, happens, pushed, store, with_store}
-use Rattle.co_meaning_calls.specs.Objects.{comes_on, stands, stands_and_comes, born_in, lives, birth, is_born, ends, dtor_of_type, end_object_by, end_whole, end_part_by, end_field, end_next, died_in, dies, has_died, abandon}
+use Rattle.co_meaning_data.specs.Turn.{Local, classes, happens, pushed, store, with_store, Turned, is_uncaught, is_undefined, judged, unless_undefined}
+use Rattle.co_meaning_data.specs.Undefined.{Fault, counts}
 use Rattle.co_meaning_data.specs.declared.events.Event.{Event}
 use Rattle.co_meaning_data.specs.declared.events.Event.TheVariants as event
-use Rattle.std.proofs.Common.{inl, true, false, Bool}
-use Rattle.std.specs.Prelude.{if◌then◌else◌}
-use Rattle.co_base.specs.declared.kinds.Undef.{Undef}
-use Rattle.co_base.specs.declared.kinds.Thrown.{Thrown}
-use Rattle.co_base.specs.declared.span.Span.{Span}
-use Rattle.co_meaning_data.specs.Frames.{Full, Scope, Temporal}
-use Rattle.co_meaning_calls.specs.Objects.{endings, fields_end, temporaries_end, unseen_endings}
+use Rattle.co_meaning_calls.specs.Objects.{comes_on, stands, stands_and_comes, born_in, lives, birth, is_born, ends, dtor_of_type, end_object_by, end_whole, end_part_by, end_field, end_next, died_in, dies, has_died, abandon, endings, fields_end, temporaries_end, unseen_endings}
 use Rattle.co_meaning.specs.Balanced.{births_in, deaths}
-use Rattle.co_meaning_data.specs.Turn.{Turned, is_uncaught, is_undefined, judged, unless_undefined}
-use Rattle.co_meaning_data.specs.Undefined.{Fault, counts}
+use Rattle.co_meaning_balance.proofs.Alive.{Fits, Grows, birth-is, births-add, death, deaths-add, ended-add, endings-alive, fields-alive, fits-born, stands-grows, temporaries-alive, unseen-alive}
 use Rattle.co_meaning_balance.specs.Order.{frames_hold, frames_stray, object_needs}
 use Rattle.co_meaning_balance.specs.Places.{ended, Keeps, Kept, KeptWith, endings_alive, object_alive, present, seen_alive}
-use Rattle.co_meaning_balance.proofs.Alive.{Fits, Grows, birth-is, births-add, death, deaths-add, ended-add, endings-alive, fields-alive, fits-born, stands-grows, temporaries-alive, unseen-alive}
 
 module _ (number item limit owed : ℕ) where
   pub happened : (e : Event) (l : Local) → births_in number item (e ∷ []) ≤ deaths item (e ∷ []) → ended number item (e ∷ []) ≤ 0 → Kept number item limit owed l → Kept number item limit owed (happens e l)
@@ -108,11 +103,11 @@ module _ (number item limit owed : ℕ) where
   end_whole-keeps : (y : Alive) (l : Local) → KeptWith number item limit owed (object_alive number item (present (frames_hold (Some number) l.top.frames)) y) l → Keeps number item limit owed (end_whole y l)
   end_whole-keeps y l known = end_object_by-keeps y l (dtor_of_type l (type_at (classes l) (store l) (whole y.object))) known
 
-  pub end_part_by-keeps : (y0 : Place) (y1 : Local) (y2 : Option FuncId) → Kept number item limit owed y1 → Keeps number item limit owed (end_part_by y0 y1 y2)
+  pub end_part_by-keeps : (p : Place) (l : Local) (o : Option FuncId) → Kept number item limit owed l → Keeps number item limit owed (end_part_by p l o)
   end_part_by-keeps p l None known = known
   end_part_by-keeps p l (Some f) known = known
 
-  pub end_field-keeps : (y0 : Place) (y1 : Local) → Kept number item limit owed y1 → Keeps number item limit owed (end_field y0 y1)
+  pub end_field-keeps : (p : Place) (l : Local) → Kept number item limit owed l → Keeps number item limit owed (end_field p l)
   end_field-keeps p l known = end_part_by-keeps p l (dtor_of_type l (type_at (classes l) (store l) p)) known
 
   pub end_next-keeps : (list : List Ending) (outcome : Outcome) (l : Local) → KeptWith number item limit owed (endings_alive number item (present (frames_hold (Some number) l.top.frames)) list) l → Keeps number item limit owed (end_next list outcome l)
@@ -145,5 +140,5 @@ module _ (number item limit owed : ℕ) where
       let enough = known.2 in
       (known.0, omega (arith, over, once), omega (arith, born, died, one, enough))
 
-  pub abandon-keeps : (y0 : ℕ) (y1 : Outcome) (y2 : Local) → Kept number item limit owed y2 → Keeps number item limit owed (abandon y0 y1 y2)
+  pub abandon-keeps : (x : ℕ) (outcome : Outcome) (l : Local) → Kept number item limit owed l → Keeps number item limit owed (abandon x outcome l)
   abandon-keeps x outcome l known = known

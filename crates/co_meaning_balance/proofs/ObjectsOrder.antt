@@ -1,19 +1,17 @@
 -- The making and the ends of objects keep the frames in order.
 use Rattle.std.proofs.Common.{ℕ, ◌≤◌, List, [], ◌∷◌, Some, None, arith}
-use Rattle.std.specs.Prelude.{Option}
+use Rattle.std.specs.Prelude.{Option, Bool, true, false, if◌then◌else◌}
 use Rattle.co_base.specs.declared.ids.FuncId.{FuncId}
-use Rattle.co_meaning_data.specs.Frames.{Alive, Spot, Ending, Ends, EndsObject, Frame, EndsPart, Outcome, PassesMark}
-use Rattle.co_meaning_data.specs.Store.{Place, end_object, make_live, type_at, whole}
-use Rattle.co_meaning_data.specs.Turn.{Local, classes, happens, pushed, store, with_store}
-use Rattle.co_meaning_calls.specs.Objects.{comes_on, stands, stands_and_comes, born_in, lives, birth, is_born, ends, dtor_of_type, end_object_by, end_whole, end_part_by, end_field, end_next, died_in, dies, has_died, abandon}
-use Rattle.co_meaning_data.specs.declared.events.Event.TheVariants as event
-use Rattle.std.specs.Prelude.{Bool, true, false, if◌then◌else◌}
 use Rattle.co_base.specs.declared.kinds.Undef.{Undef}
 use Rattle.co_base.specs.declared.span.Span.{Span}
-use Rattle.co_meaning_data.specs.Turn.{Turned, judged, unless_undefined}
+use Rattle.co_meaning_data.specs.Frames.{Alive, Spot, Ending, Ends, EndsObject, Frame, EndsPart, Outcome, PassesMark}
+use Rattle.co_meaning_data.specs.Store.{Place, end_object, make_live, type_at, whole}
+use Rattle.co_meaning_data.specs.Turn.{Local, classes, happens, pushed, store, with_store, Turned, judged, unless_undefined}
 use Rattle.co_meaning_data.specs.Undefined.{Fault, counts}
-use Rattle.co_meaning_balance.specs.Order.{InOrder, local_strays, made_strays}
+use Rattle.co_meaning_data.specs.declared.events.Event.TheVariants as event
+use Rattle.co_meaning_calls.specs.Objects.{comes_on, stands, stands_and_comes, born_in, lives, birth, is_born, ends, dtor_of_type, end_object_by, end_whole, end_part_by, end_field, end_next, died_in, dies, has_died, abandon}
 use Rattle.co_meaning_balance.proofs.Frames.{IfAlike, spot}
+use Rattle.co_meaning_balance.specs.Order.{InOrder, local_strays, made_strays}
 
 judged-order : (k : Option Undef) (at : Span) (l : Local) (t : Option Turned) → local_strays l ≤ 0 → InOrder t → InOrder (judged k at l t)
 judged-order None at l t known fits = fits
@@ -47,24 +45,24 @@ birth-order y spot outcome l (Some c) known = stands-order y spot outcome (happe
 pub is_born-order : (y : Alive) (spot : Spot) (outcome : Outcome) (l : Local) → local_strays l ≤ 0 → InOrder (is_born y spot outcome l)
 is_born-order y spot outcome l known = birth-order y spot outcome l y.coroutine known
 
-pub ends-order : (y0 : List Ending) (y1 : Outcome) (y2 : Local) → local_strays y2 ≤ 0 → InOrder (ends y0 y1 y2)
+pub ends-order : (list : List Ending) (outcome : Outcome) (l : Local) → local_strays l ≤ 0 → InOrder (ends list outcome l)
 ends-order list outcome l known = omega (arith, known)
 
-pub end_object_by-order : (y0 : Alive) (y1 : Local) (y2 : Option FuncId) → local_strays y1 ≤ 0 → InOrder (end_object_by y0 y1 y2)
+pub end_object_by-order : (x : Alive) (l : Local) (o : Option FuncId) → local_strays l ≤ 0 → InOrder (end_object_by x l o)
 end_object_by-order x l None known = omega (arith, known)
 end_object_by-order x l (Some f) known = omega (arith, known)
 
-pub end_whole-order : (y0 : Alive) (y1 : Local) → local_strays y1 ≤ 0 → InOrder (end_whole y0 y1)
+pub end_whole-order : (x : Alive) (l : Local) → local_strays l ≤ 0 → InOrder (end_whole x l)
 end_whole-order x l known = end_object_by-order x l (dtor_of_type l (type_at (classes l) (store l) (whole x.object))) (omega (arith, known))
 
-pub end_part_by-order : (y0 : Place) (y1 : Local) (y2 : Option FuncId) → local_strays y1 ≤ 0 → InOrder (end_part_by y0 y1 y2)
+pub end_part_by-order : (p : Place) (l : Local) (o : Option FuncId) → local_strays l ≤ 0 → InOrder (end_part_by p l o)
 end_part_by-order p l None known = omega (arith, known)
 end_part_by-order p l (Some f) known = omega (arith, known)
 
-pub end_field-order : (y0 : Place) (y1 : Local) → local_strays y1 ≤ 0 → InOrder (end_field y0 y1)
+pub end_field-order : (p : Place) (l : Local) → local_strays l ≤ 0 → InOrder (end_field p l)
 end_field-order p l known = end_part_by-order p l (dtor_of_type l (type_at (classes l) (store l) p)) (omega (arith, known))
 
-pub end_next-order : (y0 : List Ending) (y1 : Outcome) (y2 : Local) → local_strays y2 ≤ 0 → InOrder (end_next y0 y1 y2)
+pub end_next-order : (list : List Ending) (outcome : Outcome) (l : Local) → local_strays l ≤ 0 → InOrder (end_next list outcome l)
 end_next-order [] outcome l known = omega (arith, known)
 end_next-order (EndsObject x ∷ rest) outcome l known = end_whole-order x (pushed (Ends rest outcome) l) (omega (arith, known))
 end_next-order (EndsPart p ∷ rest) outcome l known = end_field-order p (pushed (Ends rest outcome) l) (omega (arith, known))
@@ -78,8 +76,8 @@ died_in-order y l (Some c) known = omega (arith, known)
 pub dies-order : (y : Alive) (l : Local) → local_strays l ≤ 0 → InOrder (dies y l)
 dies-order y l known = died_in-order y (with_store (end_object y.object (store l)) l) y.coroutine (omega (arith, known))
 
-pub has_died-order : (y0 : ℕ) (y1 : ℕ) (y2 : Local) → local_strays y2 ≤ 0 → InOrder (has_died y0 y1 y2)
+pub has_died-order : (c : ℕ) (x : ℕ) (l : Local) → local_strays l ≤ 0 → InOrder (has_died c x l)
 has_died-order c x l known = omega (arith, known)
 
-pub abandon-order : (y0 : ℕ) (y1 : Outcome) (y2 : Local) → local_strays y2 ≤ 0 → InOrder (abandon y0 y1 y2)
+pub abandon-order : (x : ℕ) (outcome : Outcome) (l : Local) → local_strays l ≤ 0 → InOrder (abandon x outcome l)
 abandon-order x outcome l known = omega (arith, known)

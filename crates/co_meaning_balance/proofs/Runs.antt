@@ -17,9 +17,6 @@ use Rattle.co_meaning.specs.Balanced.{births_in, deaths}
 use Rattle.co_meaning.specs.Laws.{mover}
 use Rattle.co_meaning.specs.Runs.{after_turn, cut, go, go_on, idle_agent, local_of, main_agent, move_of, or_same, runs, runs_from, start, step, take_on, take_posted, take_value, unless_halted, unless_over, vacant, without_posted}
 use Rattle.co_meaning_lives.proofs.Once.{once, turn-few}
-use Rattle.co_meaning_balance.specs.Laws.{RunsBalance}
-use Rattle.co_meaning_balance.specs.Order.{InOrder, activations_stray, agent_strays, agents_stray, coroutines_stray, frames_hold, top_strays}
-use Rattle.co_meaning_balance.specs.Places.{Keeps, activations_alive, activations_hold, agent_alive, agent_tokens, agents_alive, agents_tokens, coroutine_alive, coroutine_tokens, doing_alive, doing_tokens, ended, present, seen_alive, top_alive}
 use Rattle.co_meaning_balance.proofs.Alive.{births-add, deaths-add, ended-add, frames-none, object-none}
 use Rattle.co_meaning_balance.proofs.CallsKeeps.{around-held}
 use Rattle.co_meaning_balance.proofs.CallsOrder.{around-order}
@@ -28,6 +25,9 @@ use Rattle.co_meaning_balance.proofs.CoroutinesOrder.{transfer-order}
 use Rattle.co_meaning_balance.proofs.Numbered.{found, more-among}
 use Rattle.co_meaning_balance.proofs.StepKeeps.{act-keeps}
 use Rattle.co_meaning_balance.proofs.StepOrder.{act-order}
+use Rattle.co_meaning_balance.specs.Laws.{RunsBalance}
+use Rattle.co_meaning_balance.specs.Order.{InOrder, activations_stray, agent_strays, agents_stray, coroutines_stray, frames_hold, top_strays}
+use Rattle.co_meaning_balance.specs.Places.{Keeps, activations_alive, activations_hold, agent_alive, agent_tokens, agents_alive, agents_tokens, coroutine_alive, coroutine_tokens, doing_alive, doing_tokens, ended, present, seen_alive, top_alive}
 
 -- a step that there is satisfies this
 abbrev IfTurned : (Turned → Type 0) → Option Turned → Type 0

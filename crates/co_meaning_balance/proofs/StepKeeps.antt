@@ -1,29 +1,27 @@
 -- A step loses no object.
-use Rattle.std.proofs.Common.{ℕ, ◌+◌, ◌≤◌, List, [], ◌∷◌, Bool, true, false, Some, None, arith}
+use Rattle.std.proofs.Common.{ℕ, ◌+◌, ◌≤◌, List, [], ◌∷◌, Bool, true, false, Some, None, arith, refl}
 use Rattle.std.specs.Prelude.{not, Option}
 use Rattle.co_base.specs.declared.span.Span.{Span}
 use Rattle.co_core_tree.specs.declared.exprs.CoreExpr.{CoreExpr}
 use Rattle.co_core_tree.specs.declared.exprs.Init.{Init}
-use Rattle.co_meaning_data.specs.declared.values.Value.{Value}
+use Rattle.co_meaning_data.specs.Access.{compare, load, put}
 use Rattle.co_meaning_data.specs.Frames.{AddressOf, Answers, ArgumentMade, ArithRight, ArithWith, At, AwaitOperand, AwaitReady, AwaitResume, AwaitSuspend, Awaits, Border, BothRight, BranchOn, Building, Call, Called, Calling, ChooseOne, Closes, Comes, CompareAt, Constructing, ConvertTo, Declares, DeleteEnded, DeleteOf, Dies, Doing, Draws, Drops, EitherRight, Ends, EndsPart, Evaluate, ExchangeFrom, ExchangePlace, ExchangeWith, Execute, FieldMade, FieldOf, FieldsEnd, Frame, Full, Function, Given, Gives, Goes, Going, Guards, Handled, HasDied, HasEnded, Holds, Idle, Initialize, IsBorn, IsMade, Joined, LoadFrom, LoopBody, LoopStep, LoopTest, NewMade, NewTaken, Nothing, NullDone, ObjectEnds, Opens, Operands, Operation, Outcome, PartEnds, Passes, PickOne, RampBody, RampCopies, RampDone, RampMade, RampResult, RampTake, RampTaken, Reads, Referent, Releases, ResultInto, RethrowOf, Returns, SameRight, SameWith, Scalar, Scope, Started, StoreInto, StoreValue, TempMade, TestOf, ThrowOf, ThrowRead, Throwing, Tries, Unhandled, UpdateAt, UpdateFrom, UpdateValue, ValueInto, Writes}
 use Rattle.co_meaning_data.specs.Store.{Place, field_of_place}
-use Rattle.co_meaning_data.specs.Access.{compare, load, put}
+use Rattle.co_meaning_data.specs.Turn.{Local, Turned, gives, pointer, pushed, under, with_frames, goes}
+use Rattle.co_meaning_data.specs.declared.values.Value.{Value}
+use Rattle.co_meaning_data.specs.declared.values.Value.TheVariants as value
 use Rattle.co_meaning_calls.specs.Coroutines.{await_ready, after_end, is_zero, ramp_taken, suspends_before}
 use Rattle.co_meaning.specs.Expressions.{delete_of, new_taken}
-use Rattle.co_meaning_data.specs.Turn.{Local, Turned, gives, pointer, pushed, under, with_frames}
 use Rattle.co_meaning.specs.Step.{on_place, on_scalar, on_truth, operand, result_ends, receive, or_enter, call_next, call_on, all_fields, pass, constructor_left, leave, come, act}
-use Rattle.co_meaning_data.specs.declared.values.Value.TheVariants as value
-use Rattle.std.proofs.Common.{refl}
-use Rattle.co_meaning_data.specs.Turn.{goes}
-use Rattle.co_meaning_balance.specs.Order.{coroutines_stray, doing_strays, frame_strays, frames_hold, frames_inner, frames_stray, local_strays, rest_strays}
-use Rattle.co_meaning_balance.specs.Places.{Keeps, Kept}
 use Rattle.co_meaning_balance.proofs.AccessKeeps.{reads-keeps, load-keeps, writes-keeps, put-keeps, compare-keeps}
-use Rattle.co_meaning_balance.proofs.ObjectsKeeps.{is_born-keeps, ends-keeps, end_next-keeps, dies-keeps, has_died-keeps, abandon-keeps, unseen_ends-keeps, fields_end-keeps, full_ends-keeps, scope_ends-keeps}
 use Rattle.co_meaning_balance.proofs.CallsKeeps.{open_step-keeps, argument-keeps, argument_lives-keeps, enter-keeps, next_member-keeps, next_element-keeps, field_made-keeps, last_frame-keeps, function_left-keeps, at_border-keeps, call_returned-keeps}
 use Rattle.co_meaning_balance.proofs.CoroutinesKeeps.{fewer-without, releases-keeps, ramp_take-keeps, ramp_taken-keeps, draws-keeps, is_made-keeps, ramp_copies-keeps, ramp_made-keeps, ramp_result-keeps, ramp_body-keeps, started-keeps, final_await-keeps, guard_left-keeps, unhandled_left-keeps, hold_left-keeps, closes-keeps, has_ended-keeps, await_operand-keeps, await_resume-keeps, suspend-keeps, await_ready-keeps, answers-keeps, answer_left-keeps}
 use Rattle.co_meaning_balance.proofs.ExpressionsKeeps.{dereferenced-keeps, arithmetic-keeps, converted-keeps, updated-keeps, tested-keeps, compared_with-keeps, both-keeps, either-keeps, picks-keeps, chooses-keeps, temporary_made-keeps, throws-keeps, rethrow_parts-keeps, new_taken-keeps, new_made-keeps, new_left-keeps, delete_of-keeps, delete_ended-keeps, evaluate-keeps, initialize-keeps}
-use Rattle.co_meaning_balance.proofs.StatementsKeeps.{declares-keeps, execute-keeps, next_statement-keeps, branch-keeps, loop_tested-keeps, loop_body-keeps, loop_step-keeps, loop_left-keeps, try_left-keeps, handler_left-keeps}
 use Rattle.co_meaning_balance.proofs.LibraryKeeps.{operate-keeps}
+use Rattle.co_meaning_balance.proofs.ObjectsKeeps.{is_born-keeps, ends-keeps, end_next-keeps, dies-keeps, has_died-keeps, abandon-keeps, unseen_ends-keeps, fields_end-keeps, full_ends-keeps, scope_ends-keeps}
+use Rattle.co_meaning_balance.proofs.StatementsKeeps.{declares-keeps, execute-keeps, next_statement-keeps, branch-keeps, loop_tested-keeps, loop_body-keeps, loop_step-keeps, loop_left-keeps, try_left-keeps, handler_left-keeps}
+use Rattle.co_meaning_balance.specs.Order.{coroutines_stray, doing_strays, frame_strays, frames_hold, frames_inner, frames_stray, local_strays, rest_strays}
+use Rattle.co_meaning_balance.specs.Places.{Keeps, Kept}
 
 module _ (number item limit owed : ℕ) where
   on_place-keeps : (f : Place → Option Turned) (g : Given) → ((p : Place) → Keeps number item limit owed (f p)) → Keeps number item limit owed (on_place f g)
@@ -42,11 +40,11 @@ module _ (number item limit owed : ℕ) where
   operand-keeps o given [] at l order known = operate-keeps number item limit owed o given at l order known
   operand-keeps o given (e ∷ rest) at l order known = known
 
-  pub result_ends-keeps : (y0 : Option Place) (y1 : Going) (y2 : Local) → Kept number item limit owed y2 → Keeps number item limit owed (result_ends y0 y1 y2)
+  pub result_ends-keeps : (o : Option Place) (going : Going) (l : Local) → Kept number item limit owed l → Keeps number item limit owed (result_ends o going l)
   result_ends-keeps None going l known = known
   result_ends-keeps (Some p) going l known = ends-keeps number item limit owed (EndsPart p ∷ []) (Goes going) l (known.0, known.1, let enough = known.2 in omega (arith, enough))
 
-  pub receive-keeps : (y0 : Frame) (y1 : Given) (y2 : Local) → frame_strays y2.top.coroutine (frames_hold y2.top.coroutine y2.top.frames) (frames_inner y2.top.frames) y0 + local_strays y2 ≤ 0 → Kept number item limit owed (pushed y0 y2) → Keeps number item limit owed (receive y0 y1 y2)
+  pub receive-keeps : (f : Frame) (g : Given) (l : Local) → frame_strays l.top.coroutine (frames_hold l.top.coroutine l.top.frames) (frames_inner l.top.frames) f + local_strays l ≤ 0 → Kept number item limit owed (pushed f l) → Keeps number item limit owed (receive f g l)
   receive-keeps (FieldOf k) g l order known = on_place-keeps (λ p. gives (At (field_of_place p k)) l) g (λ p. known)
   receive-keeps (Referent at) g l order known = dereferenced-keeps number item limit owed g at l known
   receive-keeps AddressOf g l order known = on_place-keeps (λ p. gives (Scalar (pointer p)) l) g (λ p. known)
@@ -120,7 +118,7 @@ module _ (number item limit owed : ℕ) where
   call_on-keeps : (call : Call) (l : Local) → local_strays l ≤ 0 → Kept number item limit owed l → Keeps number item limit owed (call_on call l)
   call_on-keeps call l order known = call_next-keeps call l call.rest order known
 
-  pub pass-keeps : (y0 : Frame) (y1 : Local) → frame_strays y1.top.coroutine (frames_hold y1.top.coroutine y1.top.frames) (frames_inner y1.top.frames) y0 + local_strays y1 ≤ 0 → Kept number item limit owed (pushed y0 y1) → Keeps number item limit owed (pass y0 y1)
+  pub pass-keeps : (f : Frame) (l : Local) → frame_strays l.top.coroutine (frames_hold l.top.coroutine l.top.frames) (frames_inner l.top.frames) f + local_strays l ≤ 0 → Kept number item limit owed (pushed f l) → Keeps number item limit owed (pass f l)
   pass-keeps Joined l order known = known
   pass-keeps (TempMade slot x) l order known = temporary_made-keeps number item limit owed slot x l known
   pass-keeps (Operands o given rest at) l order known = operand-keeps o given rest at l (omega (arith, order)) known
@@ -156,11 +154,11 @@ module _ (number item limit owed : ℕ) where
   pass-keeps Unhandled l order known = final_await-keeps number item limit owed l known
   pass-keeps f l order known = tt
 
-  pub constructor_left-keeps : (y0 : Place) (y1 : ℕ) (y2 : Going) (y3 : Local) → Kept number item limit owed y3 → Keeps number item limit owed (constructor_left y0 y1 y2 y3)
+  pub constructor_left-keeps : (p : Place) (built : ℕ) (going : Going) (l : Local) → Kept number item limit owed l → Keeps number item limit owed (constructor_left p built going l)
   constructor_left-keeps p built (Throwing v) l known = fields_end-keeps number item limit owed p built (Goes (Throwing v)) l known
   constructor_left-keeps p built going l known = known
 
-  pub leave-keeps : (y0 : Frame) (y1 : Going) (y2 : Local) → frame_strays y2.top.coroutine (frames_hold y2.top.coroutine y2.top.frames) (frames_inner y2.top.frames) y0 + local_strays y2 ≤ 0 → Kept number item limit owed (pushed y0 y2) → Keeps number item limit owed (leave y0 y1 y2)
+  pub leave-keeps : (f : Frame) (going : Going) (l : Local) → frame_strays l.top.coroutine (frames_hold l.top.coroutine l.top.frames) (frames_inner l.top.frames) f + local_strays l ≤ 0 → Kept number item limit owed (pushed f l) → Keeps number item limit owed (leave f going l)
   leave-keeps (TempMade slot x) going l order known = abandon-keeps number item limit owed x.object (Goes going) l known
   leave-keeps (ArgumentMade x) going l order known = abandon-keeps number item limit owed x (Goes going) l known
   leave-keeps (Declares x) going l order known = abandon-keeps number item limit owed x.object (Goes going) l known
@@ -190,13 +188,13 @@ module _ (number item limit owed : ℕ) where
   leave-keeps (Closes m b outcome) going l order known = (known.0, let fewer = fewer-without number item limit owed m (frames_hold (Some number) l.top.frames) in let once = known.1 in omega (arith, fewer, once), known.2)
   leave-keeps f going l order known = known
 
-  pub come-keeps : (y0 : List Frame) (y1 : Outcome) (y2 : Local) → frames_stray y2.top.coroutine y0 + rest_strays y2 ≤ 0 → Kept number item limit owed (with_frames y0 y2) → Keeps number item limit owed (come y0 y1 y2)
+  pub come-keeps : (list : List Frame) (outcome : Outcome) (l : Local) → frames_stray l.top.coroutine list + rest_strays l ≤ 0 → Kept number item limit owed (with_frames list l) → Keeps number item limit owed (come list outcome l)
   come-keeps [] outcome l order known = last_frame-keeps number item limit owed outcome (with_frames [] l) refl known
   come-keeps (f ∷ fs) (Gives g) l order known = receive-keeps f g (with_frames fs l) (omega (arith, order)) known
   come-keeps (f ∷ fs) Passes l order known = pass-keeps f (with_frames fs l) (omega (arith, order)) known
   come-keeps (f ∷ fs) (Goes going) l order known = leave-keeps f going (with_frames fs l) (omega (arith, order)) known
 
-  pub act-keeps : (y0 : Doing) (y1 : Local) → doing_strays y1.top.coroutine (frames_hold y1.top.coroutine y1.top.frames) (frames_inner y1.top.frames) y0 + local_strays y1 ≤ 0 → Keeps number item limit owed (goes y0 y1) → Keeps number item limit owed (act y0 y1)
+  pub act-keeps : (d : Doing) (l : Local) → doing_strays l.top.coroutine (frames_hold l.top.coroutine l.top.frames) (frames_inner l.top.frames) d + local_strays l ≤ 0 → Keeps number item limit owed (goes d l) → Keeps number item limit owed (act d l)
   act-keeps Idle l order known = tt
   act-keeps (Evaluate e into) l order known = evaluate-keeps number item limit owed e into l known
   act-keeps (Awaits plan into) l order known = known

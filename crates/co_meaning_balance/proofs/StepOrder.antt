@@ -1,29 +1,28 @@
 -- A step keeps the frames in order.
-use Rattle.std.proofs.Common.{ℕ, ◌+◌, ◌≤◌, List, [], ◌∷◌, Bool, true, false, Some, None, arith}
+use Rattle.std.proofs.Common.{ℕ, ◌+◌, ◌≤◌, List, [], ◌∷◌, Bool, true, false, Some, None, arith, refl}
 use Rattle.std.specs.Prelude.{not, Option}
 use Rattle.co_base.specs.declared.span.Span.{Span}
 use Rattle.co_core_tree.specs.declared.exprs.CoreExpr.{CoreExpr}
 use Rattle.co_core_tree.specs.declared.exprs.Init.{Init}
-use Rattle.co_meaning_data.specs.declared.values.Value.{Value}
+use Rattle.co_meaning_data.specs.Access.{compare, load, put}
 use Rattle.co_meaning_data.specs.Frames.{AddressOf, Answers, ArgumentMade, ArithRight, ArithWith, At, AwaitOperand, AwaitReady, AwaitResume, AwaitSuspend, Awaits, Border, BothRight, BranchOn, Building, Call, Called, Calling, ChooseOne, Closes, Comes, CompareAt, Constructing, ConvertTo, Declares, DeleteEnded, DeleteOf, Dies, Doing, Draws, Drops, EitherRight, Ends, EndsPart, Evaluate, ExchangeFrom, ExchangePlace, ExchangeWith, Execute, FieldMade, FieldOf, FieldsEnd, Frame, Full, Function, Given, Gives, Goes, Going, Guards, Handled, HasDied, HasEnded, Holds, Idle, Initialize, IsBorn, IsMade, Joined, LoadFrom, LoopBody, LoopStep, LoopTest, NewMade, NewTaken, Nothing, NullDone, ObjectEnds, Opens, Operands, Operation, Outcome, PartEnds, Passes, PickOne, RampBody, RampCopies, RampDone, RampMade, RampResult, RampTake, RampTaken, Reads, Referent, Releases, ResultInto, RethrowOf, Returns, SameRight, SameWith, Scalar, Scope, Started, StoreInto, StoreValue, TempMade, TestOf, ThrowOf, ThrowRead, Throwing, Tries, Unhandled, UpdateAt, UpdateFrom, UpdateValue, ValueInto, Writes}
 use Rattle.co_meaning_data.specs.Store.{Place, field_of_place}
-use Rattle.co_meaning_data.specs.Access.{compare, load, put}
-use Rattle.co_meaning_calls.specs.Coroutines.{await_ready, after_end, is_zero, ramp_taken, suspends_before}
-use Rattle.co_meaning.specs.Expressions.{delete_of, new_taken}
-use Rattle.co_meaning_calls.specs.Objects.{unseen_endings, endings, fields_end, temporaries_end}
 use Rattle.co_meaning_data.specs.Turn.{Local, Turned, gives, pointer, pushed, under, with_frames}
-use Rattle.co_meaning.specs.Step.{on_place, on_scalar, on_truth, operand, result_ends, receive, or_enter, call_next, call_on, all_fields, pass, constructor_left, leave, come, act}
+use Rattle.co_meaning_data.specs.declared.values.Value.{Value}
 use Rattle.co_meaning_data.specs.declared.values.Value.TheVariants as value
-use Rattle.std.proofs.Common.{refl}
-use Rattle.co_meaning_balance.specs.Order.{InOrder, call_needs, doing_strays, frame_strays, frames_hold, frames_inner, frames_stray, local_strays, needs, open_strays, rest_strays}
-use Rattle.co_meaning_balance.proofs.Frames.{few}
+use Rattle.co_meaning_calls.specs.Coroutines.{await_ready, after_end, is_zero, ramp_taken, suspends_before}
+use Rattle.co_meaning_calls.specs.Objects.{unseen_endings, endings, fields_end, temporaries_end}
+use Rattle.co_meaning.specs.Expressions.{delete_of, new_taken}
+use Rattle.co_meaning.specs.Step.{on_place, on_scalar, on_truth, operand, result_ends, receive, or_enter, call_next, call_on, all_fields, pass, constructor_left, leave, come, act}
 use Rattle.co_meaning_balance.proofs.AccessOrder.{reads-order, load-order, writes-order, put-order, compare-order}
-use Rattle.co_meaning_balance.proofs.ObjectsOrder.{is_born-order, ends-order, end_next-order, dies-order, has_died-order, abandon-order}
 use Rattle.co_meaning_balance.proofs.CallsOrder.{open_step-order, argument-order, argument_lives-order, enter-order, next_member-order, next_element-order, field_made-order, last_frame-order, function_left-order, at_border-order, call_returned-order}
 use Rattle.co_meaning_balance.proofs.CoroutinesOrder.{releases-order, ramp_take-order, ramp_taken-order, draws-order, is_made-order, ramp_copies-order, ramp_made-order, ramp_result-order, ramp_body-order, started-order, final_await-order, guard_left-order, unhandled_left-order, hold_left-order, closes-order, has_ended-order, await_operand-order, await_resume-order, suspend-order, await_ready-order, answers-order, answer_left-order}
 use Rattle.co_meaning_balance.proofs.ExpressionsOrder.{dereferenced-order, arithmetic-order, converted-order, updated-order, tested-order, compared_with-order, both-order, either-order, picks-order, chooses-order, temporary_made-order, throws-order, rethrow_parts-order, new_taken-order, new_made-order, new_left-order, delete_of-order, delete_ended-order, evaluate-order, initialize-order}
-use Rattle.co_meaning_balance.proofs.StatementsOrder.{declares-order, execute-order, next_statement-order, branch-order, loop_tested-order, loop_body-order, loop_step-order, loop_left-order, try_left-order, handler_left-order}
+use Rattle.co_meaning_balance.proofs.Frames.{few}
 use Rattle.co_meaning_balance.proofs.LibraryOrder.{operate-order}
+use Rattle.co_meaning_balance.proofs.ObjectsOrder.{is_born-order, ends-order, end_next-order, dies-order, has_died-order, abandon-order}
+use Rattle.co_meaning_balance.proofs.StatementsOrder.{declares-order, execute-order, next_statement-order, branch-order, loop_tested-order, loop_body-order, loop_step-order, loop_left-order, try_left-order, handler_left-order}
+use Rattle.co_meaning_balance.specs.Order.{InOrder, call_needs, doing_strays, frame_strays, frames_hold, frames_inner, frames_stray, local_strays, needs, open_strays, rest_strays}
 
 on_place-order : (f : Place → Option Turned) (g : Given) → ((p : Place) → InOrder (f p)) → InOrder (on_place f g)
 on_place-order f (At p) fits = fits p
@@ -37,15 +36,15 @@ on_truth-order : (f : Bool → Option Turned) (g : Given) → ((b : Bool) → In
 on_truth-order f (Scalar (value.Number n z)) fits = fits (not (is_zero z))
 on_truth-order f g fits = tt
 
-pub operand-order : (y0 : Operation) (y1 : List Given) (y2 : List CoreExpr) (y3 : Span) (y4 : Local) → open_strays y4 ≤ 0 → InOrder (operand y0 y1 y2 y3 y4)
+pub operand-order : (o : Operation) (given : List Given) (list : List CoreExpr) (at : Span) (l : Local) → open_strays l ≤ 0 → InOrder (operand o given list at l)
 operand-order o given [] at l known = operate-order o given at l (omega (arith, known))
 operand-order o given (e ∷ rest) at l known = omega (arith, known)
 
-pub result_ends-order : (y0 : Option Place) (y1 : Going) (y2 : Local) → local_strays y2 ≤ 0 → InOrder (result_ends y0 y1 y2)
+pub result_ends-order : (o : Option Place) (going : Going) (l : Local) → local_strays l ≤ 0 → InOrder (result_ends o going l)
 result_ends-order None going l known = omega (arith, known)
 result_ends-order (Some p) going l known = ends-order (EndsPart p ∷ []) (Goes going) l (omega (arith, known))
 
-pub receive-order : (y0 : Frame) (y1 : Given) (y2 : Local) → frame_strays y2.top.coroutine (frames_hold y2.top.coroutine y2.top.frames) (frames_inner y2.top.frames) y0 + local_strays y2 ≤ 0 → InOrder (receive y0 y1 y2)
+pub receive-order : (f : Frame) (g : Given) (l : Local) → frame_strays l.top.coroutine (frames_hold l.top.coroutine l.top.frames) (frames_inner l.top.frames) f + local_strays l ≤ 0 → InOrder (receive f g l)
 receive-order (FieldOf k) g l known = on_place-order (λ p. gives (At (field_of_place p k)) l) g (λ p. (omega (arith, known)))
 receive-order (Referent at) g l known = dereferenced-order g at l (omega (arith, known))
 receive-order AddressOf g l known = on_place-order (λ p. gives (Scalar (pointer p)) l) g (λ p. (omega (arith, known)))
@@ -119,7 +118,7 @@ call_next-order call l (i ∷ rest) known = argument-order (record call { rest =
 call_on-order : (call : Call) (l : Local) → call_needs (needs l.top.coroutine (frames_hold l.top.coroutine l.top.frames)) call.rest + local_strays l ≤ 0 → InOrder (call_on call l)
 call_on-order call l known = call_next-order call l call.rest known
 
-pub pass-order : (y0 : Frame) (y1 : Local) → frame_strays y1.top.coroutine (frames_hold y1.top.coroutine y1.top.frames) (frames_inner y1.top.frames) y0 + local_strays y1 ≤ 0 → InOrder (pass y0 y1)
+pub pass-order : (f : Frame) (l : Local) → frame_strays l.top.coroutine (frames_hold l.top.coroutine l.top.frames) (frames_inner l.top.frames) f + local_strays l ≤ 0 → InOrder (pass f l)
 pass-order Joined l known = omega (arith, known)
 pass-order (TempMade slot x) l known = temporary_made-order slot x l (omega (arith, known))
 pass-order (Operands o given rest at) l known = operand-order o given rest at l (omega (arith, known))
@@ -155,11 +154,11 @@ pass-order (Guards resumed) l known = final_await-order l (omega (arith, known))
 pass-order Unhandled l known = final_await-order l (omega (arith, known))
 pass-order f l known = tt
 
-pub constructor_left-order : (y0 : Place) (y1 : ℕ) (y2 : Going) (y3 : Local) → open_strays y3 ≤ 0 → InOrder (constructor_left y0 y1 y2 y3)
+pub constructor_left-order : (p : Place) (built : ℕ) (going : Going) (l : Local) → open_strays l ≤ 0 → InOrder (constructor_left p built going l)
 constructor_left-order p built (Throwing v) l known = ends-order (fields_end p built) (Goes (Throwing v)) l (omega (arith, known))
 constructor_left-order p built going l known = omega (arith, known)
 
-pub leave-order : (y0 : Frame) (y1 : Going) (y2 : Local) → frame_strays y2.top.coroutine (frames_hold y2.top.coroutine y2.top.frames) (frames_inner y2.top.frames) y0 + local_strays y2 ≤ 0 → InOrder (leave y0 y1 y2)
+pub leave-order : (f : Frame) (going : Going) (l : Local) → frame_strays l.top.coroutine (frames_hold l.top.coroutine l.top.frames) (frames_inner l.top.frames) f + local_strays l ≤ 0 → InOrder (leave f going l)
 leave-order (TempMade slot x) going l known = abandon-order x.object (Goes going) l (omega (arith, known))
 leave-order (ArgumentMade x) going l known = abandon-order x (Goes going) l (omega (arith, known))
 leave-order (Declares x) going l known = abandon-order x.object (Goes going) l (omega (arith, known))
@@ -188,13 +187,13 @@ leave-order (Guards resumed) going l known = guard_left-order resumed going l (o
 leave-order Unhandled going l known = unhandled_left-order going l (omega (arith, known))
 leave-order f going l known = omega (arith, known)
 
-pub come-order : (y0 : List Frame) (y1 : Outcome) (y2 : Local) → frames_stray y2.top.coroutine y0 + rest_strays y2 ≤ 0 → InOrder (come y0 y1 y2)
+pub come-order : (list : List Frame) (outcome : Outcome) (l : Local) → frames_stray l.top.coroutine list + rest_strays l ≤ 0 → InOrder (come list outcome l)
 come-order [] outcome l known = last_frame-order outcome (with_frames [] l) (omega (arith, known))
 come-order (f ∷ fs) (Gives g) l known = receive-order f g (with_frames fs l) (omega (arith, known))
 come-order (f ∷ fs) Passes l known = pass-order f (with_frames fs l) (omega (arith, known))
 come-order (f ∷ fs) (Goes going) l known = leave-order f going (with_frames fs l) (omega (arith, known))
 
-pub act-order : (y0 : Doing) (y1 : Local) → doing_strays y1.top.coroutine (frames_hold y1.top.coroutine y1.top.frames) (frames_inner y1.top.frames) y0 + local_strays y1 ≤ 0 → InOrder (act y0 y1)
+pub act-order : (d : Doing) (l : Local) → doing_strays l.top.coroutine (frames_hold l.top.coroutine l.top.frames) (frames_inner l.top.frames) d + local_strays l ≤ 0 → InOrder (act d l)
 act-order Idle l known = tt
 act-order (Evaluate e into) l known = evaluate-order e into l (omega (arith, known))
 act-order (Awaits plan into) l known = omega (arith, known)
