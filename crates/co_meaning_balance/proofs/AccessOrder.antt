@@ -14,11 +14,11 @@ use Rattle.co_meaning_data.specs.declared.values.Value.{Value}
 use Rattle.co_meaning_balance.proofs.ObjectsOrder.{unless-order}
 use Rattle.co_meaning_balance.specs.Order.{InOrder, open_strays}
 
-pub read_on-order : (p : Place) (zero : ℕ) (done : List Value) (at : Span) (l : Local) → open_strays l ≤ 0 → InOrder (read_on p zero done at l)
+read_on-order : (p : Place) (zero : ℕ) (done : List Value) (at : Span) (l : Local) → open_strays l ≤ 0 → InOrder (read_on p zero done at l)
 read_on-order p zero done at l known = omega (arith, known)
 read_on-order p (suc left) done at l known = omega (arith, known)
 
-pub read_cell-order : (p : Place) (left : ℕ) (done : List Value) (at : Span) (l : Local) (o : Option Cell) → open_strays l ≤ 0 → InOrder (read_cell p left done at l o)
+read_cell-order : (p : Place) (left : ℕ) (done : List Value) (at : Span) (l : Local) (o : Option Cell) → open_strays l ≤ 0 → InOrder (read_cell p left done at l o)
 read_cell-order p left done at l None known = tt
 read_cell-order p left done at l (Some c) known = unless-order (read_faults c) at l (read_on p left (done ++ held_in c) at l) (omega (arith, known)) (read_on-order p left (done ++ held_in c) at l (omega (arith, known)))
 
@@ -29,11 +29,11 @@ reads-order p (suc left) done at l known = read_cell-order p left done at l (cel
 pub load-order : (p : Place) (at : Span) (l : Local) → open_strays l ≤ 0 → InOrder (load p at l)
 load-order p at l known = omega (arith, known)
 
-pub write_on-order : (initial : Bool) (p : Place) (done : ℕ) (list : List Value) (outcome : Outcome) (at : Span) (l : Local) → open_strays l ≤ 0 → InOrder (write_on initial p done list outcome at l)
+write_on-order : (initial : Bool) (p : Place) (done : ℕ) (list : List Value) (outcome : Outcome) (at : Span) (l : Local) → open_strays l ≤ 0 → InOrder (write_on initial p done list outcome at l)
 write_on-order initial p done [] outcome at l known = omega (arith, known)
 write_on-order initial p done (v ∷ left) outcome at l known = omega (arith, known)
 
-pub write_cell-order : (initial : Bool) (p : Place) (done : ℕ) (v : Value) (left : List Value) (outcome : Outcome) (at : Span) (l : Local) (o : Option Cell) → open_strays l ≤ 0 → InOrder (write_cell initial p done v left outcome at l o)
+write_cell-order : (initial : Bool) (p : Place) (done : ℕ) (v : Value) (left : List Value) (outcome : Outcome) (at : Span) (l : Local) (o : Option Cell) → open_strays l ≤ 0 → InOrder (write_cell initial p done v left outcome at l o)
 write_cell-order initial p done v left outcome at l None known = tt
 write_cell-order initial p done v left outcome at l (Some c) known = unless-order (write_faults initial p c l) at l (write_on initial p (suc done) left outcome at (written p done v l)) (omega (arith, known)) (write_on-order initial p (suc done) left outcome at (written p done v l) (omega (arith, known)))
 
@@ -41,14 +41,14 @@ pub writes-order : (initial : Bool) (p : Place) (done : ℕ) (list : List Value)
 writes-order initial p done [] outcome at l known = omega (arith, known)
 writes-order initial p done (v ∷ left) outcome at l known = write_cell-order initial p done v left outcome at l (cell_at (classes l) (store l) p done) (omega (arith, known))
 
-pub store_parts-order : (initial : Bool) (p : Place) (o : Option (List Value)) (outcome : Outcome) (at : Span) (l : Local) → open_strays l ≤ 0 → InOrder (store_parts initial p o outcome at l)
+store_parts-order : (initial : Bool) (p : Place) (o : Option (List Value)) (outcome : Outcome) (at : Span) (l : Local) → open_strays l ≤ 0 → InOrder (store_parts initial p o outcome at l)
 store_parts-order initial p None outcome at l known = tt
 store_parts-order initial p (Some vs) outcome at l known = omega (arith, known)
 
 pub put-order : (initial : Bool) (p : Place) (g : Given) (outcome : Outcome) (at : Span) (l : Local) → open_strays l ≤ 0 → InOrder (put initial p g outcome at l)
 put-order initial p g outcome at l known = store_parts-order initial p (parts_for (type_at (classes l) (store l) p) g) outcome at l (omega (arith, known))
 
-pub swap_cell-order : (f : (Value → Value)) (p : Place) (at : Span) (l : Local) (o : Option Cell) → open_strays l ≤ 0 → InOrder (swap_cell f p at l o)
+swap_cell-order : (f : (Value → Value)) (p : Place) (at : Span) (l : Local) (o : Option Cell) → open_strays l ≤ 0 → InOrder (swap_cell f p at l o)
 swap_cell-order f p at l (Some (cell.Holds v)) known = omega (arith, known)
 swap_cell-order f p at l (Some c) known = unless-order (read_faults c) at l None (omega (arith, known)) tt
 swap_cell-order f p at l None known = tt
@@ -56,11 +56,11 @@ swap_cell-order f p at l None known = tt
 pub swap-order : (f : (Value → Value)) (p : Place) (at : Span) (l : Local) → open_strays l ≤ 0 → InOrder (swap f p at l)
 swap-order f p at l known = swap_cell-order f p at l (cell_at (classes l) (store l) p 0) (omega (arith, known))
 
-pub compared-order : (true : Bool) (p : Place) (expected : Place) (found : Value) (desired : Value) (at : Span) (l : Local) → open_strays l ≤ 0 → InOrder (compared true p expected found desired at l)
+compared-order : (true : Bool) (p : Place) (expected : Place) (found : Value) (desired : Value) (at : Span) (l : Local) → open_strays l ≤ 0 → InOrder (compared true p expected found desired at l)
 compared-order true p expected found desired at l known = omega (arith, known)
 compared-order false p expected found desired at l known = omega (arith, known)
 
-pub compare_cell-order : (p : Place) (expected : Place) (wanted : Value) (desired : Value) (at : Span) (l : Local) (o : Option Cell) → open_strays l ≤ 0 → InOrder (compare_cell p expected wanted desired at l o)
+compare_cell-order : (p : Place) (expected : Place) (wanted : Value) (desired : Value) (at : Span) (l : Local) (o : Option Cell) → open_strays l ≤ 0 → InOrder (compare_cell p expected wanted desired at l o)
 compare_cell-order p expected wanted desired at l (Some (cell.Holds v)) known = unless-order (record { kind = U9; holds = compares_dangling (store l) l.shared.coroutines v wanted } ∷ []) at l (compared (is_same (store l) l.shared.coroutines v wanted) p expected v desired at l) (omega (arith, known)) (compared-order (is_same (store l) l.shared.coroutines v wanted) p expected v desired at l (omega (arith, known)))
 compare_cell-order p expected wanted desired at l (Some c) known = unless-order (read_faults c) at l None (omega (arith, known)) tt
 compare_cell-order p expected wanted desired at l None known = tt

@@ -79,22 +79,22 @@ module _ (number item limit owed : ℕ) where
   open_step-keeps zero d l known = known
   open_step-keeps (suc marks) d l known = known
 
-  pub argument_object-keeps : (slot : ℕ) (i : Init) (call : Call) (l : Local) (o : Option CoType) → Kept number item limit owed l → Keeps number item limit owed (argument_object slot i call l o)
+  argument_object-keeps : (slot : ℕ) (i : Init) (call : Call) (l : Local) (o : Option CoType) → Kept number item limit owed l → Keeps number item limit owed (argument_object slot i call l o)
   argument_object-keeps slot i call l None known = tt
   argument_object-keeps slot i call l (Some of) known = known
 
-  pub class_argument-keeps : (call : Call) (i : Init) (l : Local) (o : Option (ℕ × Init)) → Kept number item limit owed l → Keeps number item limit owed (class_argument call i l o)
+  class_argument-keeps : (call : Call) (i : Init) (l : Local) (o : Option (ℕ × Init)) → Kept number item limit owed l → Keeps number item limit owed (class_argument call i l o)
   class_argument-keeps call i l None known = known
   class_argument-keeps call i l (Some made) known = argument_object-keeps made.0 made.1 call l (type_of_slot l made.0) known
 
-  pub argument_for-keeps : (flag : Option Bool) (i : Init) (call : Call) (l : Local) → Kept number item limit owed l → Keeps number item limit owed (argument_for flag i call l)
+  argument_for-keeps : (flag : Option Bool) (i : Init) (call : Call) (l : Local) → Kept number item limit owed l → Keeps number item limit owed (argument_for flag i call l)
   argument_for-keeps (Some true) i call l known = class_argument-keeps call i l (temp_of i) known
   argument_for-keeps flag i call l known = known
 
   pub argument-keeps : (call : Call) (i : Init) (l : Local) → Kept number item limit owed l → Keeps number item limit owed (argument call i l)
   argument-keeps call i l known = argument_for-keeps (slice_get (class_params (funcs l) call.func) (length call.given)) i call l known
 
-  pub argument_made-keeps : (x : ℕ) (call : Call) (l : Local) → Kept number item limit owed l → Keeps number item limit owed (argument_made x call l)
+  argument_made-keeps : (x : ℕ) (call : Call) (l : Local) → Kept number item limit owed l → Keeps number item limit owed (argument_made x call l)
   argument_made-keeps x call l known = known
 
   pub argument_lives-keeps : (x : ℕ) (fs : List Frame) (l : Local) → Kept number item limit owed (with_frames fs l) → Keeps number item limit owed (argument_lives x fs l)

@@ -20,7 +20,7 @@ use Rattle.co_meaning_balance.proofs.ObjectsOrder.{ends-order}
 use Rattle.co_meaning_balance.specs.Order.{InOrder, activations_stray, coroutines_stray, doing_strays, frames_hold, frames_inner, needs, frames_stray, local_strays, open_strays, rest_strays}
 
 -- what stands around a body is in order in a function that is of no coroutine yet
-pub around-inner : (func : CoreFunc) (own : List ℕ) → frames_inner (around func own) ≡ 0
+around-inner : (func : CoreFunc) (own : List ℕ) → frames_inner (around func own) ≡ 0
 around-inner func own = go func.noexcept
   where
     go : (c : Bool) → frames_inner (border c ++ Function own ∷ []) ≡ 0
@@ -68,15 +68,15 @@ pub open_step-order : (marks : ℕ) (d : Doing) (l : Local) → doing_strays l.t
 open_step-order zero d l known = omega (arith, known)
 open_step-order (suc marks) d l known = omega (arith, known)
 
-pub argument_object-order : (slot : ℕ) (i : Init) (call : Call) (l : Local) (o : Option CoType) → open_strays l ≤ 0 → InOrder (argument_object slot i call l o)
+argument_object-order : (slot : ℕ) (i : Init) (call : Call) (l : Local) (o : Option CoType) → open_strays l ≤ 0 → InOrder (argument_object slot i call l o)
 argument_object-order slot i call l None known = tt
 argument_object-order slot i call l (Some of) known = let fact0 = few (needs l.top.coroutine (frames_hold l.top.coroutine l.top.frames)) call.rest in omega (arith, known, fact0)
 
-pub class_argument-order : (call : Call) (i : Init) (l : Local) (o : Option (ℕ × Init)) → open_strays l ≤ 0 → InOrder (class_argument call i l o)
+class_argument-order : (call : Call) (i : Init) (l : Local) (o : Option (ℕ × Init)) → open_strays l ≤ 0 → InOrder (class_argument call i l o)
 class_argument-order call i l None known = let fact0 = few (needs l.top.coroutine (frames_hold l.top.coroutine l.top.frames)) call.rest in omega (arith, known, fact0)
 class_argument-order call i l (Some made) known = argument_object-order made.0 made.1 call l (type_of_slot l made.0) (omega (arith, known))
 
-pub argument_for-order : (flag : Option Bool) (i : Init) (call : Call) (l : Local) → open_strays l ≤ 0 → InOrder (argument_for flag i call l)
+argument_for-order : (flag : Option Bool) (i : Init) (call : Call) (l : Local) → open_strays l ≤ 0 → InOrder (argument_for flag i call l)
 argument_for-order (Some true) i call l known = class_argument-order call i l (temp_of i) (omega (arith, known))
 argument_for-order flag i call l known = let fact0 = few (needs l.top.coroutine (frames_hold l.top.coroutine l.top.frames)) call.rest in omega (arith, known, fact0)
 

@@ -51,27 +51,27 @@ module _ (number item limit owed : ℕ) where
   releases-keeps b words (give.Own f) outcome at l known = (known.0, known.1, let enough = known.2 in omega (arith, enough))
   releases-keeps b words (give.OwnSized f) outcome at l known = (known.0, known.1, let enough = known.2 in omega (arith, enough))
 
-  pub takes_frame-keeps : (plan : TakePlan) (rest : List Init) (l : Local) → Kept number item limit owed l → Keeps number item limit owed (takes_frame plan rest l)
+  takes_frame-keeps : (plan : TakePlan) (rest : List Init) (l : Local) → Kept number item limit owed l → Keeps number item limit owed (takes_frame plan rest l)
   takes_frame-keeps take_plan.Global rest l known = take_block-keeps (frame_bytes l / 8) l known
   takes_frame-keeps (take_plan.Own f) rest l known = known
   takes_frame-keeps (take_plan.OwnWith f) rest l known = opens-keeps number item limit owed (call_acts l (take_call f rest l)) (Calling (take_call f rest l) ∷ []) (Comes Passes) l known
 
-  pub ramp_takes-keeps : (l : Local) (o : Option PromisePlan) → Kept number item limit owed l → Keeps number item limit owed (ramp_takes l o)
+  ramp_takes-keeps : (l : Local) (o : Option PromisePlan) → Kept number item limit owed l → Keeps number item limit owed (ramp_takes l o)
   ramp_takes-keeps l None known = tt
   ramp_takes-keeps l (Some plan) known = takes_frame-keeps plan.take plan.take_args (pushed RampTaken l) known
 
   pub ramp_take-keeps : (l : Local) → Kept number item limit owed l → Keeps number item limit owed (ramp_take l)
   ramp_take-keeps l known = ramp_takes-keeps l (plan_of l) known
 
-  pub frame_room-keeps : (v : Value) (l : Local) → Kept number item limit owed l → Keeps number item limit owed (frame_room v l)
+  frame_room-keeps : (v : Value) (l : Local) → Kept number item limit owed l → Keeps number item limit owed (frame_room v l)
   frame_room-keeps (value.Block b) l known = known
   frame_room-keeps v l known = tt
 
-  pub without_storage-keeps : (on_null : Option FuncId) (v : Value) (l : Local) → Kept number item limit owed l → Keeps number item limit owed (without_storage on_null v l)
+  without_storage-keeps : (on_null : Option FuncId) (v : Value) (l : Local) → Kept number item limit owed l → Keeps number item limit owed (without_storage on_null v l)
   without_storage-keeps (Some f) value.Null l known = known
   without_storage-keeps on_null v l known = unless-keeps number item limit owed (record { kind = U10; holds = is_no_room (store l) (coroutines l) (frame_bytes l / 8) v } ∷ []) (func_span l) l (frame_room v l) known (frame_room-keeps v l known)
 
-  pub ramp_taken_by-keeps : (v : Value) (l : Local) (o : Option PromisePlan) → Kept number item limit owed l → Keeps number item limit owed (ramp_taken_by v l o)
+  ramp_taken_by-keeps : (v : Value) (l : Local) (o : Option PromisePlan) → Kept number item limit owed l → Keeps number item limit owed (ramp_taken_by v l o)
   ramp_taken_by-keeps v l None known = tt
   ramp_taken_by-keeps v l (Some plan) known = without_storage-keeps plan.on_null v l known
 
@@ -123,11 +123,11 @@ module _ (number item limit owed : ℕ) where
       let enough = known.2 in
       (known.0, omega (arith, one, two, over, once), omega (arith, born, died, enough))
 
-  pub ramp_copy_of-keeps : (copy : CopyPlan) (rest : List CopyPlan) (l : Local) (o : Option CoType) → Kept number item limit owed l → Keeps number item limit owed (ramp_copy_of copy rest l o)
+  ramp_copy_of-keeps : (copy : CopyPlan) (rest : List CopyPlan) (l : Local) (o : Option CoType) → Kept number item limit owed l → Keeps number item limit owed (ramp_copy_of copy rest l o)
   ramp_copy_of-keeps copy rest l None known = tt
   ramp_copy_of-keeps copy rest l (Some of) known = opens-keeps number item limit owed (init_acts_here (pushed (RampCopies rest) (with_raw copy.to.0 of (counted_in l of) l)) copy.init) (RampMade (record { object = (next_object (store l)); coroutine = counted_in l of }) ∷ []) (Initialize copy.init (Some (whole (next_object (store l))))) (pushed (RampCopies rest) (with_raw copy.to.0 of (counted_in l of) l)) known
 
-  pub construct_promise-keeps : (plan : PromisePlan) (x : Alive) (l : Local) (o : Option FuncId) → Kept number item limit owed l → Keeps number item limit owed (construct_promise plan x l o)
+  construct_promise-keeps : (plan : PromisePlan) (x : Alive) (l : Local) (o : Option FuncId) → Kept number item limit owed l → Keeps number item limit owed (construct_promise plan x l o)
   construct_promise-keeps plan x l None known = known
   construct_promise-keeps plan x l (Some f) known = opens-keeps number item limit owed (call_acts l (ctor_call f plan.with_params plan.ctor_args x.object l)) (Calling (ctor_call f plan.with_params plan.ctor_args x.object l) ∷ Drops ∷ RampMade x ∷ []) (Comes Passes) l known
 
@@ -151,7 +151,7 @@ module _ (number item limit owed : ℕ) where
   make_promise_in-keeps plan slot l (Some of) known =
       promise_made-keeps plan (record { object = next_object (store l); coroutine = counted_in l of }) (with_raw slot of (counted_in l of) l) (promised_by (next_object (store l)) (with_raw slot of (counted_in l of) l) l.top.coroutine) (promised_by-same number item (next_object (store l)) (with_raw slot of (counted_in l of) l) l.top.coroutine) known
 
-  pub make_promise_at-keeps : (l : Local) (plan : Option PromisePlan) (slot : Option ℕ) → Kept number item limit owed l → Keeps number item limit owed (make_promise_at l plan slot)
+  make_promise_at-keeps : (l : Local) (plan : Option PromisePlan) (slot : Option ℕ) → Kept number item limit owed l → Keeps number item limit owed (make_promise_at l plan slot)
   make_promise_at-keeps l (Some plan) (Some slot) known = make_promise_in-keeps plan slot l (type_of_slot l slot) known
   make_promise_at-keeps l plan slot known = tt
 
@@ -162,7 +162,7 @@ module _ (number item limit owed : ℕ) where
   pub ramp_made-keeps : (x : Alive) (l : Local) → Kept number item limit owed l → Keeps number item limit owed (ramp_made x l)
   ramp_made-keeps x l known = lives-keeps number item limit owed x InHold Passes l known
 
-  pub ramp_result_by-keeps : (l : Local) (o : Option PromisePlan) → Kept number item limit owed l → Keeps number item limit owed (ramp_result_by l o)
+  ramp_result_by-keeps : (l : Local) (o : Option PromisePlan) → Kept number item limit owed l → Keeps number item limit owed (ramp_result_by l o)
   ramp_result_by-keeps l None known = tt
   ramp_result_by-keeps l (Some plan) known = known
 
@@ -191,21 +191,21 @@ module _ (number item limit owed : ℕ) where
   pub ramp_body-keeps : (l : Local) → frames_stray l.top.coroutine l.top.frames ≤ 0 → Kept number item limit owed l → Keeps number item limit owed (ramp_body l)
   ramp_body-keeps l order known = ramp_body_by-keeps l.top.frames l (plan_of l) order known
 
-  pub start_in-keeps : (l : Local) (o : Option CoreFunc) → Kept number item limit owed l → Keeps number item limit owed (start_in l o)
+  start_in-keeps : (l : Local) (o : Option CoreFunc) → Kept number item limit owed l → Keeps number item limit owed (start_in l o)
   start_in-keeps l None known = tt
   start_in-keeps l (Some func) known = known
 
   pub started-keeps : (l : Local) → Kept number item limit owed l → Keeps number item limit owed (started l)
   started-keeps l known = start_in-keeps l (func_of l) known
 
-  pub final_by-keeps : (l : Local) (o : Option PromisePlan) → Kept number item limit owed l → Keeps number item limit owed (final_by l o)
+  final_by-keeps : (l : Local) (o : Option PromisePlan) → Kept number item limit owed l → Keeps number item limit owed (final_by l o)
   final_by-keeps l None known = tt
   final_by-keeps l (Some plan) known = opens-keeps number item limit owed (await_acts l plan.last) [] (Awaits plan.last None) (pushed Drops l) known
 
   pub final_await-keeps : (l : Local) → Kept number item limit owed l → Keeps number item limit owed (final_await l)
   final_await-keeps l known = final_by-keeps l (plan_of l) known
 
-  pub handled_by-keeps : (v : Thrown) (l : Local) (o : Option PromisePlan) → Kept number item limit owed l → Keeps number item limit owed (handled_by v l o)
+  handled_by-keeps : (v : Thrown) (l : Local) (o : Option PromisePlan) → Kept number item limit owed l → Keeps number item limit owed (handled_by v l o)
   handled_by-keeps v l None known = tt
   handled_by-keeps v l (Some plan) known = known
 
@@ -299,7 +299,7 @@ module _ (number item limit owed : ℕ) where
       let moved = set-moved number item m Over (with_store (set_standing b standing.Nothing (store l)) l) in
       subst (λ k. Keeps number item limit owed (goes (HasEnded m b outcome) k)) (sym moved.is) (closing m b outcome (with_store (set_standing b standing.Nothing (store l)) l) (set_condition m Over (with_store (set_standing b standing.Nothing (store l)) l)) moved known)
 
-  pub release_frame-keeps : (b : ℕ) (outcome : Outcome) (l : Local) (o : Option PromisePlan) → Kept number item limit owed l → Keeps number item limit owed (release_frame b outcome l o)
+  release_frame-keeps : (b : ℕ) (outcome : Outcome) (l : Local) (o : Option PromisePlan) → Kept number item limit owed l → Keeps number item limit owed (release_frame b outcome l o)
   release_frame-keeps b outcome l None known = tt
   release_frame-keeps b outcome l (Some plan) known = known
 

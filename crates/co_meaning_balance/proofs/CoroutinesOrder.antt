@@ -204,7 +204,7 @@ make_promise_in-order plan slot l (Some of) known =
     let made = counts l of (frames_hold l.top.coroutine l.top.frames) in
     promise_made-order plan (record { object = next_object (store l); coroutine = counted_in l of }) (with_raw slot of (counted_in l of) l) (promised_by (next_object (store l)) (with_raw slot of (counted_in l of) l) l.top.coroutine) (promised_by-changed (next_object (store l)) (with_raw slot of (counted_in l of) l) l.top.coroutine) (omega (arith, known, made))
 
-pub make_promise_at-order : (l : Local) (plan : Option PromisePlan) (slot : Option ℕ) → open_strays l ≤ 0 → InOrder (make_promise_at l plan slot)
+make_promise_at-order : (l : Local) (plan : Option PromisePlan) (slot : Option ℕ) → open_strays l ≤ 0 → InOrder (make_promise_at l plan slot)
 make_promise_at-order l (Some plan) (Some slot) known = make_promise_in-order plan slot l (type_of_slot l slot) (omega (arith, known))
 make_promise_at-order l plan slot known = tt
 
@@ -215,7 +215,7 @@ ramp_copies-order [] l known = make_promise_at-order l (plan_of l) (promise_in (
 pub ramp_made-order : (y : Alive) (l : Local) → made_strays y l ≤ 0 → InOrder (ramp_made y l)
 ramp_made-order y l known = lives-order y InHold Passes l known
 
-pub ramp_result_by-order : (l : Local) (o : Option PromisePlan) → open_strays l ≤ 0 → InOrder (ramp_result_by l o)
+ramp_result_by-order : (l : Local) (o : Option PromisePlan) → open_strays l ≤ 0 → InOrder (ramp_result_by l o)
 ramp_result_by-order l None known = tt
 ramp_result_by-order l (Some plan) known = omega (arith, known)
 
@@ -237,21 +237,21 @@ ramp_body_by-order fs l plan known = tt
 pub ramp_body-order : (l : Local) → local_strays l ≤ 0 → InOrder (ramp_body l)
 ramp_body-order l known = ramp_body_by-order l.top.frames l (plan_of l) known
 
-pub start_in-order : (l : Local) (o : Option CoreFunc) → open_strays l ≤ 0 → InOrder (start_in l o)
+start_in-order : (l : Local) (o : Option CoreFunc) → open_strays l ≤ 0 → InOrder (start_in l o)
 start_in-order l None known = tt
 start_in-order l (Some func) known = omega (arith, known)
 
 pub started-order : (l : Local) → open_strays l ≤ 0 → InOrder (started l)
 started-order l known = start_in-order l (func_of l) (omega (arith, known))
 
-pub final_by-order : (l : Local) (o : Option PromisePlan) → open_strays l ≤ 0 → InOrder (final_by l o)
+final_by-order : (l : Local) (o : Option PromisePlan) → open_strays l ≤ 0 → InOrder (final_by l o)
 final_by-order l None known = tt
 final_by-order l (Some plan) known = opens-order (await_acts l plan.last) [] (Awaits plan.last None) (pushed Drops l) (λ us. omega (arith, known))
 
 pub final_await-order : (l : Local) → open_strays l ≤ 0 → InOrder (final_await l)
 final_await-order l known = final_by-order l (plan_of l) (omega (arith, known))
 
-pub handled_by-order : (v : Thrown) (l : Local) (o : Option PromisePlan) → open_strays l ≤ 0 → InOrder (handled_by v l o)
+handled_by-order : (v : Thrown) (l : Local) (o : Option PromisePlan) → open_strays l ≤ 0 → InOrder (handled_by v l o)
 handled_by-order v l None known = tt
 handled_by-order v l (Some plan) known = omega (arith, known)
 
@@ -286,7 +286,7 @@ closes-order n b outcome l known =
     let fits = set.fits in
     subst (λ k. InOrder (goes (HasEnded n b outcome) k)) (sym set.is) (omega (arith, known, fits))
 
-pub release_frame-order : (b : ℕ) (outcome : Outcome) (l : Local) (o : Option PromisePlan) → local_strays l ≤ 0 → InOrder (release_frame b outcome l o)
+release_frame-order : (b : ℕ) (outcome : Outcome) (l : Local) (o : Option PromisePlan) → local_strays l ≤ 0 → InOrder (release_frame b outcome l o)
 release_frame-order b outcome l None known = tt
 release_frame-order b outcome l (Some plan) known = omega (arith, known)
 
@@ -407,11 +407,11 @@ taken_in-order n outcome l (Some c) e known = let found = numbered-strays n c l.
 take_back-order : (n serial : ℕ) (outcome : Outcome) (at : Span) (l : Local) → local_strays l ≤ 0 → InOrder (take_back n serial outcome at l)
 take_back-order n serial outcome at l known = unless-order (record { kind = U1; holds = not_taken_back (coroutines l) n serial } ∷ []) at l (taken_in n outcome l (numbered (coroutines l) n)) known (taken_in-order n outcome l (numbered (coroutines l) n) refl (omega (arith, known)))
 
-pub answer_bool-order : (true : Bool) (n : ℕ) (serial : ℕ) (at : Span) (l : Local) → local_strays l ≤ 0 → InOrder (answer_bool true n serial at l)
+answer_bool-order : (true : Bool) (n : ℕ) (serial : ℕ) (at : Span) (l : Local) → local_strays l ≤ 0 → InOrder (answer_bool true n serial at l)
 answer_bool-order true n serial at l known = take_back-order n serial Passes at l (omega (arith, known))
 answer_bool-order false n serial at l known = returns-order Nothing l (omega (arith, known))
 
-pub answered-order : (n : ℕ) (serial : ℕ) (a : Answer) (g : Given) (at : Span) (l : Local) → local_strays l ≤ 0 → InOrder (answered n serial a g at l)
+answered-order : (n : ℕ) (serial : ℕ) (a : Answer) (g : Given) (at : Span) (l : Local) → local_strays l ≤ 0 → InOrder (answered n serial a g at l)
 answered-order n serial answer.Void g at l known = returns-order Nothing l (omega (arith, known))
 answered-order n serial answer.Bool (Scalar (value.Number k z)) at l known = answer_bool-order (is_zero z) n serial at l (omega (arith, known))
 answered-order n serial answer.Handle (Scalar v) at l known = transfer-order v at l (omega (arith, known))

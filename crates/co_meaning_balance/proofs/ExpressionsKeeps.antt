@@ -39,11 +39,11 @@ use Rattle.co_meaning_balance.proofs.ObjectsKeeps.{if-keeps, is_uncaught-keeps, 
 use Rattle.co_meaning_balance.specs.Places.{Keeps, Kept}
 
 module _ (number item limit owed : ℕ) where
-  pub at_object-keeps : (l : Local) (o : Option ℕ) → Kept number item limit owed l → Keeps number item limit owed (at_object l o)
+  at_object-keeps : (l : Local) (o : Option ℕ) → Kept number item limit owed l → Keeps number item limit owed (at_object l o)
   at_object-keeps l None known = tt
   at_object-keeps l (Some x) known = known
 
-  pub at_whole-keeps : (l : Local) (o : Option Place) → Kept number item limit owed l → Keeps number item limit owed (at_whole l o)
+  at_whole-keeps : (l : Local) (o : Option Place) → Kept number item limit owed l → Keeps number item limit owed (at_whole l o)
   at_whole-keeps l None known = tt
   at_whole-keeps l (Some p) known = known
 
@@ -51,7 +51,7 @@ module _ (number item limit owed : ℕ) where
   dereferenced-keeps (Scalar v) at l known = unless-keeps number item limit owed (record { kind = U4; holds = is_null v } ∷ record { kind = U12; holds = is_no_place v } ∷ []) at l (gives (place_of v) l) known known
   dereferenced-keeps g at l known = tt
 
-  pub computed-keeps : (o : Op) (n : Num) (r : Option ℤ) (at : Span) (l : Local) → Kept number item limit owed l → Keeps number item limit owed (computed o n r at l)
+  computed-keeps : (o : Op) (n : Num) (r : Option ℤ) (at : Span) (l : Local) → Kept number item limit owed l → Keeps number item limit owed (computed o n r at l)
   computed-keeps o n r at l known = unless-keeps number item limit owed (record { kind = U5; holds = is_none r } ∷ []) at l (gives (Scalar (value.Number (result_num o n) (or_none r))) l) known known
 
   pub arithmetic-keeps : (o : Op) (n : Num) (g : Given) (h : Given) (at : Span) (l : Local) → Kept number item limit owed l → Keeps number item limit owed (arithmetic o n g h at l)
@@ -62,7 +62,7 @@ module _ (number item limit owed : ℕ) where
   converted-keeps n (Scalar (value.Number k a)) l known = known
   converted-keeps n g l known = tt
 
-  pub update_writes-keeps : (n : Num) (a : ℤ) (r : Option ℤ) (p : Place) (old : Bool) (at : Span) (l : Local) → Kept number item limit owed l → Keeps number item limit owed (update_writes n a r p old at l)
+  update_writes-keeps : (n : Num) (a : ℤ) (r : Option ℤ) (p : Place) (old : Bool) (at : Span) (l : Local) → Kept number item limit owed l → Keeps number item limit owed (update_writes n a r p old at l)
   update_writes-keeps n a r p old at l known = unless-keeps number item limit owed (record { kind = U5; holds = is_none r } ∷ []) at l (goes (Writes false p 0 (value.Number n (convert_of n (or_none r)) ∷ []) (update_gives old (value.Number n a) p) at) l) known known
 
   pub updated-keeps : (o : Op) (n : Num) (v : Given) (p : Place) (old : Bool) (g : Given) (at : Span) (l : Local) → Kept number item limit owed l → Keeps number item limit owed (updated o n v p old g at l)
@@ -97,7 +97,7 @@ module _ (number item limit owed : ℕ) where
   chooses-keeps x y p (Scalar (value.Number n z)) l known = known
   chooses-keeps x y p g l known = tt
 
-  pub make_temporary-keeps : (slot : ℕ) (i : Init) (l : Local) (o : Option CoType) → Kept number item limit owed l → Keeps number item limit owed (make_temporary slot i l o)
+  make_temporary-keeps : (slot : ℕ) (i : Init) (l : Local) (o : Option CoType) → Kept number item limit owed l → Keeps number item limit owed (make_temporary slot i l o)
   make_temporary-keeps slot i l None known = tt
   make_temporary-keeps slot i l (Some of) known = known
 
@@ -106,7 +106,7 @@ module _ (number item limit owed : ℕ) where
       lives-keeps number item limit owed y (InFull slot) (Gives (At (whole y.object))) (with_frames (set_mark slot l.top.frames) l)
       (as-before number item limit owed (Comes Passes) l.top.frames (set_mark slot l.top.frames) l (marks (Some number) slot l.top.frames).held (marks-alive number item slot l.top.frames) known)
 
-  pub throw_place-keeps : (of : CoType) (h : Head) (p : Place) (at : Span) (l : Local) → Kept number item limit owed l → Keeps number item limit owed (throw_place of h p at l)
+  throw_place-keeps : (of : CoType) (h : Head) (p : Place) (at : Span) (l : Local) → Kept number item limit owed l → Keeps number item limit owed (throw_place of h p at l)
   throw_place-keeps of (head.Class class) p at l known = known
   throw_place-keeps of h p at l known = tt
 
@@ -115,7 +115,7 @@ module _ (number item limit owed : ℕ) where
   throws-keeps of (At p) at l known = throw_place-keeps of (head_of of) p at l known
   throws-keeps of g at l known = tt
 
-  pub rethrow-keeps : (list : List Thrown) (l : Local) → Kept number item limit owed l → Keeps number item limit owed (rethrow list l)
+  rethrow-keeps : (list : List Thrown) (l : Local) → Kept number item limit owed l → Keeps number item limit owed (rethrow list l)
   rethrow-keeps [] l known = is_uncaught-keeps number item limit owed thrown.None l known
   rethrow-keeps (v ∷ handled) l known = known
 
@@ -125,16 +125,16 @@ module _ (number item limit owed : ℕ) where
   rethrow_parts-keeps (Scalar value.Null) at l known = unless-keeps number item limit owed null_fault at l None known tt
   rethrow_parts-keeps g at l known = tt
 
-  pub takes-keeps : (plan : TakePlan) (n : NewPlan) (l : Local) → Kept number item limit owed l → Keeps number item limit owed (takes plan n l)
+  takes-keeps : (plan : TakePlan) (n : NewPlan) (l : Local) → Kept number item limit owed l → Keeps number item limit owed (takes plan n l)
   takes-keeps take_plan.Global plan l known = take_block-keeps number item limit owed (words (classes l) plan.of) l known
   takes-keeps (take_plan.Own f) plan l known = known
   takes-keeps (take_plan.OwnWith f) plan l known = tt
 
-  pub new_at-keeps : (plan : NewPlan) (v : Value) (l : Local) → Kept number item limit owed l → Keeps number item limit owed (new_at plan v l)
+  new_at-keeps : (plan : NewPlan) (v : Value) (l : Local) → Kept number item limit owed l → Keeps number item limit owed (new_at plan v l)
   new_at-keeps plan (value.Block b) l known = known
   new_at-keeps plan v l known = tt
 
-  pub new_in-keeps : (plan : NewPlan) (v : Value) (l : Local) → Kept number item limit owed l → Keeps number item limit owed (new_in plan v l)
+  new_in-keeps : (plan : NewPlan) (v : Value) (l : Local) → Kept number item limit owed l → Keeps number item limit owed (new_in plan v l)
   new_in-keeps plan v l known = unless-keeps number item limit owed (record { kind = U10; holds = is_no_room (store l) (coroutines l) (words (classes l) plan.of) v } ∷ []) plan.span l (new_at plan v l) known (new_at-keeps plan v l known)
 
   pub new_taken-keeps : (plan : NewPlan) (v : Value) (l : Local) → Kept number item limit owed l → Keeps number item limit owed (new_taken plan v l)
@@ -147,15 +147,15 @@ module _ (number item limit owed : ℕ) where
   pub new_left-keeps : (x : ℕ) (b : ℕ) (plan : NewPlan) (outcome : Outcome) (l : Local) → Kept number item limit owed l → Keeps number item limit owed (new_left x b plan outcome l)
   new_left-keeps x b plan outcome l known = known
 
-  pub delete_by-keeps : (x : ℕ) (b : ℕ) (plan : DeletePlan) (l : Local) (o : Option FuncId) → Kept number item limit owed l → Keeps number item limit owed (delete_by x b plan l o)
+  delete_by-keeps : (x : ℕ) (b : ℕ) (plan : DeletePlan) (l : Local) (o : Option FuncId) → Kept number item limit owed l → Keeps number item limit owed (delete_by x b plan l o)
   delete_by-keeps x b plan l None known = known
   delete_by-keeps x b plan l (Some f) known = known
 
-  pub delete_in-keeps : (x : ℕ) (plan : DeletePlan) (l : Local) (o : Option ℕ) → Kept number item limit owed l → Keeps number item limit owed (delete_in x plan l o)
+  delete_in-keeps : (x : ℕ) (plan : DeletePlan) (l : Local) (o : Option ℕ) → Kept number item limit owed l → Keeps number item limit owed (delete_in x plan l o)
   delete_in-keeps x plan l None known = tt
   delete_in-keeps x plan l (Some b) known = delete_by-keeps x b plan l plan.destroy known
 
-  pub delete_at-keeps : (plan : DeletePlan) (v : Value) (l : Local) → Kept number item limit owed l → Keeps number item limit owed (delete_at plan v l)
+  delete_at-keeps : (plan : DeletePlan) (v : Value) (l : Local) → Kept number item limit owed l → Keeps number item limit owed (delete_at plan v l)
   delete_at-keeps plan (value.Pointer x path) l known = delete_in-keeps x plan l (block_of_object (object_at (store l) x)) known
   delete_at-keeps plan v l known = tt
 
@@ -200,7 +200,7 @@ module _ (number item limit owed : ℕ) where
   evaluate-keeps (expr.New' n (more_of-NewPlan of take may_be_null i give span end_of-NewPlan)) into l known = let plan : NewPlan = record { of = of; take = take; may_be_null = may_be_null; init = i; give = give; span = span } in (takes-keeps take plan (pushed (NewTaken plan) l) known)
   evaluate-keeps (expr.Delete' n (more_of-DeletePlan of pointer destroy give span end_of-DeletePlan)) into l known = known
 
-  pub members-keeps : (p : Place) (is : List Init) (l : Local) → Kept number item limit owed l → Keeps number item limit owed (members p is l)
+  members-keeps : (p : Place) (is : List Init) (l : Local) → Kept number item limit owed l → Keeps number item limit owed (members p is l)
   members-keeps p is l known = if-keeps number item limit owed (is_empty_type (type_at (classes l) (store l) p)) (goes (Writes true p 0 (value.Empty ∷ []) Passes nowhere) l) (under (Building p 0 is) (Comes Passes) l) known known
 
   pub initialize-keeps : (i : Init) (p : Option Place) (l : Local) → Kept number item limit owed l → Keeps number item limit owed (initialize i p l)

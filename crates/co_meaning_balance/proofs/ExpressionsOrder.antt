@@ -35,11 +35,11 @@ use Rattle.co_meaning_balance.proofs.Frames.{counts, few, marks}
 use Rattle.co_meaning_balance.proofs.ObjectsOrder.{if-order, lives-order, unless-order}
 use Rattle.co_meaning_balance.specs.Order.{InOrder, frames_hold, made_strays, needs, object_needs, open_strays}
 
-pub at_object-order : (l : Local) (o : Option ℕ) → open_strays l ≤ 0 → InOrder (at_object l o)
+at_object-order : (l : Local) (o : Option ℕ) → open_strays l ≤ 0 → InOrder (at_object l o)
 at_object-order l None known = tt
 at_object-order l (Some x) known = omega (arith, known)
 
-pub at_whole-order : (l : Local) (o : Option Place) → open_strays l ≤ 0 → InOrder (at_whole l o)
+at_whole-order : (l : Local) (o : Option Place) → open_strays l ≤ 0 → InOrder (at_whole l o)
 at_whole-order l None known = tt
 at_whole-order l (Some p) known = omega (arith, known)
 
@@ -47,7 +47,7 @@ pub dereferenced-order : (g : Given) (at : Span) (l : Local) → open_strays l �
 dereferenced-order (Scalar v) at l known = unless-order (record { kind = U4; holds = is_null v } ∷ record { kind = U12; holds = is_no_place v } ∷ []) at l (gives (place_of v) l) (omega (arith, known)) (omega (arith, known))
 dereferenced-order g at l known = tt
 
-pub computed-order : (o : Op) (n : Num) (r : Option ℤ) (at : Span) (l : Local) → open_strays l ≤ 0 → InOrder (computed o n r at l)
+computed-order : (o : Op) (n : Num) (r : Option ℤ) (at : Span) (l : Local) → open_strays l ≤ 0 → InOrder (computed o n r at l)
 computed-order o n r at l known = unless-order (record { kind = U5; holds = is_none r } ∷ []) at l (gives (Scalar (value.Number (result_num o n) (or_none r))) l) (omega (arith, known)) (omega (arith, known))
 
 pub arithmetic-order : (o : Op) (n : Num) (g : Given) (h : Given) (at : Span) (l : Local) → open_strays l ≤ 0 → InOrder (arithmetic o n g h at l)
@@ -58,7 +58,7 @@ pub converted-order : (n : Num) (g : Given) (l : Local) → open_strays l ≤ 0 
 converted-order n (Scalar (value.Number k a)) l known = omega (arith, known)
 converted-order n g l known = tt
 
-pub update_writes-order : (n : Num) (a : ℤ) (r : Option ℤ) (p : Place) (old : Bool) (at : Span) (l : Local) → open_strays l ≤ 0 → InOrder (update_writes n a r p old at l)
+update_writes-order : (n : Num) (a : ℤ) (r : Option ℤ) (p : Place) (old : Bool) (at : Span) (l : Local) → open_strays l ≤ 0 → InOrder (update_writes n a r p old at l)
 update_writes-order n a r p old at l known = unless-order (record { kind = U5; holds = is_none r } ∷ []) at l (goes (Writes false p 0 (value.Number n (convert_of n (or_none r)) ∷ []) (update_gives old (value.Number n a) p) at) l) (omega (arith, known)) (omega (arith, known))
 
 pub updated-order : (o : Op) (n : Num) (v : Given) (p : Place) (old : Bool) (g : Given) (at : Span) (l : Local) → open_strays l ≤ 0 → InOrder (updated o n v p old g at l)
@@ -93,7 +93,7 @@ pub chooses-order : (x : Init) (y : Init) (p : Option Place) (g : Given) (l : Lo
 chooses-order x y p (Scalar (value.Number n z)) l known = omega (arith, known)
 chooses-order x y p g l known = tt
 
-pub make_temporary-order : (slot : ℕ) (i : Init) (l : Local) (o : Option CoType) → open_strays l ≤ 0 → InOrder (make_temporary slot i l o)
+make_temporary-order : (slot : ℕ) (i : Init) (l : Local) (o : Option CoType) → open_strays l ≤ 0 → InOrder (make_temporary slot i l o)
 make_temporary-order slot i l None known = tt
 make_temporary-order slot i l (Some of) known = let fact0 = counts l of (frames_hold l.top.coroutine l.top.frames) in omega (arith, known, fact0)
 
@@ -104,7 +104,7 @@ temporary_made-order slot y l known =
     let held = ap (λ n. object_needs l.top.coroutine n y.coroutine) alike.held in
     lives-order y (InFull slot) (Gives (At (whole y.object))) (with_frames (set_mark slot l.top.frames) l) (omega (arith, known, strays, held))
 
-pub throw_place-order : (of : CoType) (h : Head) (p : Place) (at : Span) (l : Local) → open_strays l ≤ 0 → InOrder (throw_place of h p at l)
+throw_place-order : (of : CoType) (h : Head) (p : Place) (at : Span) (l : Local) → open_strays l ≤ 0 → InOrder (throw_place of h p at l)
 throw_place-order of (head.Class class) p at l known = omega (arith, known)
 throw_place-order of h p at l known = tt
 
@@ -113,7 +113,7 @@ throws-order of (Scalar (value.Number n z)) at l known = omega (arith, known)
 throws-order of (At p) at l known = throw_place-order of (head_of of) p at l (omega (arith, known))
 throws-order of g at l known = tt
 
-pub rethrow-order : (list : List Thrown) (l : Local) → open_strays l ≤ 0 → InOrder (rethrow list l)
+rethrow-order : (list : List Thrown) (l : Local) → open_strays l ≤ 0 → InOrder (rethrow list l)
 rethrow-order [] l known = omega (arith, known)
 rethrow-order (v ∷ handled) l known = omega (arith, known)
 
@@ -123,16 +123,16 @@ rethrow_parts-order (Parts (value.Null ∷ vs)) at l known = unless-order null_f
 rethrow_parts-order (Scalar value.Null) at l known = unless-order null_fault at l None (omega (arith, known)) tt
 rethrow_parts-order g at l known = tt
 
-pub takes-order : (plan : TakePlan) (n : NewPlan) (l : Local) → open_strays l ≤ 0 → InOrder (takes plan n l)
+takes-order : (plan : TakePlan) (n : NewPlan) (l : Local) → open_strays l ≤ 0 → InOrder (takes plan n l)
 takes-order take_plan.Global plan l known = take_block-order (words (classes l) plan.of) l (omega (arith, known))
 takes-order (take_plan.Own f) plan l known = omega (arith, known)
 takes-order (take_plan.OwnWith f) plan l known = tt
 
-pub new_at-order : (plan : NewPlan) (v : Value) (l : Local) → open_strays l ≤ 0 → InOrder (new_at plan v l)
+new_at-order : (plan : NewPlan) (v : Value) (l : Local) → open_strays l ≤ 0 → InOrder (new_at plan v l)
 new_at-order plan (value.Block b) l known = omega (arith, known)
 new_at-order plan v l known = tt
 
-pub new_in-order : (plan : NewPlan) (v : Value) (l : Local) → open_strays l ≤ 0 → InOrder (new_in plan v l)
+new_in-order : (plan : NewPlan) (v : Value) (l : Local) → open_strays l ≤ 0 → InOrder (new_in plan v l)
 new_in-order plan v l known = unless-order (record { kind = U10; holds = is_no_room (store l) (coroutines l) (words (classes l) plan.of) v } ∷ []) plan.span l (new_at plan v l) (omega (arith, known)) (new_at-order plan v l (omega (arith, known)))
 
 pub new_taken-order : (plan : NewPlan) (v : Value) (l : Local) → open_strays l ≤ 0 → InOrder (new_taken plan v l)
@@ -145,15 +145,15 @@ new_made-order x l known = omega (arith, known)
 pub new_left-order : (x : ℕ) (b : ℕ) (plan : NewPlan) (outcome : Outcome) (l : Local) → open_strays l ≤ 0 → InOrder (new_left x b plan outcome l)
 new_left-order x b plan outcome l known = omega (arith, known)
 
-pub delete_by-order : (x : ℕ) (b : ℕ) (plan : DeletePlan) (l : Local) (o : Option FuncId) → open_strays l ≤ 0 → InOrder (delete_by x b plan l o)
+delete_by-order : (x : ℕ) (b : ℕ) (plan : DeletePlan) (l : Local) (o : Option FuncId) → open_strays l ≤ 0 → InOrder (delete_by x b plan l o)
 delete_by-order x b plan l None known = omega (arith, known)
 delete_by-order x b plan l (Some f) known = omega (arith, known)
 
-pub delete_in-order : (x : ℕ) (plan : DeletePlan) (l : Local) (o : Option ℕ) → open_strays l ≤ 0 → InOrder (delete_in x plan l o)
+delete_in-order : (x : ℕ) (plan : DeletePlan) (l : Local) (o : Option ℕ) → open_strays l ≤ 0 → InOrder (delete_in x plan l o)
 delete_in-order x plan l None known = tt
 delete_in-order x plan l (Some b) known = delete_by-order x b plan l plan.destroy (omega (arith, known))
 
-pub delete_at-order : (plan : DeletePlan) (v : Value) (l : Local) → open_strays l ≤ 0 → InOrder (delete_at plan v l)
+delete_at-order : (plan : DeletePlan) (v : Value) (l : Local) → open_strays l ≤ 0 → InOrder (delete_at plan v l)
 delete_at-order plan (value.Pointer x path) l known = delete_in-order x plan l (block_of_object (object_at (store l) x)) (omega (arith, known))
 delete_at-order plan v l known = tt
 

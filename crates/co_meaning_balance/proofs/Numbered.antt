@@ -64,7 +64,7 @@ module _ (number item : ℕ) where
   with-apart zero i new cs apart = refl
   with-apart (suc j) i new cs apart = set-else cs i j new (λ e. apart (ap (λ k. suc k) (sym e)))
 
-  pub with-moved : (m : ℕ) (new old : Coroutine) (l : Local) → numbered l.shared.coroutines m ≡ Some old → Moved m new.condition l (with_coroutine m new l)
+  with-moved : (m : ℕ) (new old : Coroutine) (l : Local) → numbered l.shared.coroutines m ≡ Some old → Moved m new.condition l (with_coroutine m new l)
   with-moved zero new old l e = absurd (none-some old e)
   with-moved (suc i) new old l e =
       record {

@@ -103,11 +103,11 @@ module _ (number item limit owed : ℕ) where
   end_whole-keeps : (y : Alive) (l : Local) → KeptWith number item limit owed (object_alive number item (present (frames_hold (Some number) l.top.frames)) y) l → Keeps number item limit owed (end_whole y l)
   end_whole-keeps y l known = end_object_by-keeps y l (dtor_of_type l (type_at (classes l) (store l) (whole y.object))) known
 
-  pub end_part_by-keeps : (p : Place) (l : Local) (o : Option FuncId) → Kept number item limit owed l → Keeps number item limit owed (end_part_by p l o)
+  end_part_by-keeps : (p : Place) (l : Local) (o : Option FuncId) → Kept number item limit owed l → Keeps number item limit owed (end_part_by p l o)
   end_part_by-keeps p l None known = known
   end_part_by-keeps p l (Some f) known = known
 
-  pub end_field-keeps : (p : Place) (l : Local) → Kept number item limit owed l → Keeps number item limit owed (end_field p l)
+  end_field-keeps : (p : Place) (l : Local) → Kept number item limit owed l → Keeps number item limit owed (end_field p l)
   end_field-keeps p l known = end_part_by-keeps p l (dtor_of_type l (type_at (classes l) (store l) p)) known
 
   pub end_next-keeps : (list : List Ending) (outcome : Outcome) (l : Local) → KeptWith number item limit owed (endings_alive number item (present (frames_hold (Some number) l.top.frames)) list) l → Keeps number item limit owed (end_next list outcome l)

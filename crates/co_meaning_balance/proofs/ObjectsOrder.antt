@@ -48,18 +48,18 @@ is_born-order y spot outcome l known = birth-order y spot outcome l y.coroutine 
 pub ends-order : (list : List Ending) (outcome : Outcome) (l : Local) → local_strays l ≤ 0 → InOrder (ends list outcome l)
 ends-order list outcome l known = omega (arith, known)
 
-pub end_object_by-order : (x : Alive) (l : Local) (o : Option FuncId) → local_strays l ≤ 0 → InOrder (end_object_by x l o)
+end_object_by-order : (x : Alive) (l : Local) (o : Option FuncId) → local_strays l ≤ 0 → InOrder (end_object_by x l o)
 end_object_by-order x l None known = omega (arith, known)
 end_object_by-order x l (Some f) known = omega (arith, known)
 
-pub end_whole-order : (x : Alive) (l : Local) → local_strays l ≤ 0 → InOrder (end_whole x l)
+end_whole-order : (x : Alive) (l : Local) → local_strays l ≤ 0 → InOrder (end_whole x l)
 end_whole-order x l known = end_object_by-order x l (dtor_of_type l (type_at (classes l) (store l) (whole x.object))) (omega (arith, known))
 
-pub end_part_by-order : (p : Place) (l : Local) (o : Option FuncId) → local_strays l ≤ 0 → InOrder (end_part_by p l o)
+end_part_by-order : (p : Place) (l : Local) (o : Option FuncId) → local_strays l ≤ 0 → InOrder (end_part_by p l o)
 end_part_by-order p l None known = omega (arith, known)
 end_part_by-order p l (Some f) known = omega (arith, known)
 
-pub end_field-order : (p : Place) (l : Local) → local_strays l ≤ 0 → InOrder (end_field p l)
+end_field-order : (p : Place) (l : Local) → local_strays l ≤ 0 → InOrder (end_field p l)
 end_field-order p l known = end_part_by-order p l (dtor_of_type l (type_at (classes l) (store l) p)) (omega (arith, known))
 
 pub end_next-order : (list : List Ending) (outcome : Outcome) (l : Local) → local_strays l ≤ 0 → InOrder (end_next list outcome l)

@@ -389,7 +389,7 @@ module _ (number item : ℕ) where
       let fresh = ap (coroutine_tokens number item) (none-numbered number) in
       record { order = start-order unit more; tokens = omega (arith, main, idle, fresh); alive = omega arith; fronts = no-front }
 
-  pub ends-last : (p : Program) (more : ℕ) (moves : List Move) → Fronts (runs p more moves).events
+  ends-last : (p : Program) (more : ℕ) (moves : List Move) → Fronts (runs p more moves).events
   ends-last p more moves = (runs-stand p (start p.unit more) moves (start-stands p.unit more)).fronts
 
 pub balance : RunsBalance

@@ -23,10 +23,10 @@ use Rattle.co_meaning_balance.proofs.ObjectsKeeps.{if-keeps, is_undefined-keeps,
 use Rattle.co_meaning_balance.specs.Places.{Keeps, Kept}
 
 module _ (number item limit owed : ℕ) where
-  pub full-keeps : (e : CoreExpr) (l : Local) → Kept number item limit owed l → Keeps number item limit owed (full e l)
+  full-keeps : (e : CoreExpr) (l : Local) → Kept number item limit owed l → Keeps number item limit owed (full e l)
   full-keeps e l known = opens-keeps number item limit owed (acts_of (funcs l) e) [] (Evaluate e None) l known
 
-  pub declare_in-keeps : (slot : ℕ) (i : Init) (l : Local) (o : Option CoType) → Kept number item limit owed l → Keeps number item limit owed (declare_in slot i l o)
+  declare_in-keeps : (slot : ℕ) (i : Init) (l : Local) (o : Option CoType) → Kept number item limit owed l → Keeps number item limit owed (declare_in slot i l o)
   declare_in-keeps slot i l None known = tt
   declare_in-keeps slot i l (Some of) known = opens-keeps number item limit owed (init_acts_of (funcs l) i) (Declares (record { object = (next_object (store l)); coroutine = counted_in l of }) ∷ []) (Initialize i (Some (whole (next_object (store l))))) (with_raw slot of (counted_in l of) l) known
 
@@ -70,18 +70,18 @@ module _ (number item limit owed : ℕ) where
   loop_left-keeps e step body Continuing l known = loop_body-keeps e step body l known
   loop_left-keeps e step body going l known = known
 
-  pub catch_into-keeps : (slot : ℕ) (v : Thrown) (l : Local) (o : Option CoType) → Kept number item limit owed l → Keeps number item limit owed (catch_into slot v l o)
+  catch_into-keeps : (slot : ℕ) (v : Thrown) (l : Local) (o : Option CoType) → Kept number item limit owed l → Keeps number item limit owed (catch_into slot v l o)
   catch_into-keeps slot v l None known = tt
   catch_into-keeps slot v l (Some of) known = known
 
-  pub catch_in-keeps : (o : Option SlotId) (v : Thrown) (l : Local) → Kept number item limit owed l → Keeps number item limit owed (catch_in o v l)
+  catch_in-keeps : (o : Option SlotId) (v : Thrown) (l : Local) → Kept number item limit owed l → Keeps number item limit owed (catch_in o v l)
   catch_in-keeps None v l known = known
   catch_in-keeps (Some slot) v l known = catch_into-keeps slot.0 v l (type_of_slot l slot.0) known
 
-  pub enter_handler-keeps : (h : Handler) (v : Thrown) (l : Local) → Kept number item limit owed l → Keeps number item limit owed (enter_handler h v l)
+  enter_handler-keeps : (h : Handler) (v : Thrown) (l : Local) → Kept number item limit owed l → Keeps number item limit owed (enter_handler h v l)
   enter_handler-keeps h v l known = catch_in-keeps h.slot v (pushed (Scope [] (h.body ∷ [])) (pushed Handled (record l { handled = v ∷ l.handled }))) (known.0, known.1, let enough = known.2 in omega (arith, enough))
 
-  pub caught_by-keeps : (v : Thrown) (l : Local) (o : Option Handler) → Kept number item limit owed l → Keeps number item limit owed (caught_by v l o)
+  caught_by-keeps : (v : Thrown) (l : Local) (o : Option Handler) → Kept number item limit owed l → Keeps number item limit owed (caught_by v l o)
   caught_by-keeps v l None known = known
   caught_by-keeps v l (Some h) known = enter_handler-keeps h v l known
 

@@ -22,7 +22,7 @@ use Rattle.co_meaning_balance.proofs.Frames.{counts}
 use Rattle.co_meaning_balance.proofs.ObjectsOrder.{ends-order, if-order, lives-order}
 use Rattle.co_meaning_balance.specs.Order.{InOrder, frames_hold, made_strays, open_strays}
 
-pub full-order : (e : CoreExpr) (l : Local) → open_strays l ≤ 0 → InOrder (full e l)
+full-order : (e : CoreExpr) (l : Local) → open_strays l ≤ 0 → InOrder (full e l)
 full-order e l known = opens-order (acts_of (funcs l) e) [] (Evaluate e None) l (λ us. omega (arith, known))
 
 declare_in-order : (slot : ℕ) (i : Init) (l : Local) (of : Option CoType) → open_strays l ≤ 0 → InOrder (declare_in slot i l of)
@@ -71,18 +71,18 @@ loop_left-order e step body Breaking l known = omega (arith, known)
 loop_left-order e step body Continuing l known = loop_body-order e step body l (omega (arith, known))
 loop_left-order e step body going l known = omega (arith, known)
 
-pub catch_into-order : (slot : ℕ) (v : Thrown) (l : Local) (o : Option CoType) → open_strays l ≤ 0 → InOrder (catch_into slot v l o)
+catch_into-order : (slot : ℕ) (v : Thrown) (l : Local) (o : Option CoType) → open_strays l ≤ 0 → InOrder (catch_into slot v l o)
 catch_into-order slot v l None known = tt
 catch_into-order slot v l (Some of) known = let fact0 = counts l of (frames_hold l.top.coroutine l.top.frames) in omega (arith, known, fact0)
 
-pub catch_in-order : (o : Option SlotId) (v : Thrown) (l : Local) → open_strays l ≤ 0 → InOrder (catch_in o v l)
+catch_in-order : (o : Option SlotId) (v : Thrown) (l : Local) → open_strays l ≤ 0 → InOrder (catch_in o v l)
 catch_in-order None v l known = omega (arith, known)
 catch_in-order (Some slot) v l known = catch_into-order slot.0 v l (type_of_slot l slot.0) (omega (arith, known))
 
-pub enter_handler-order : (h : Handler) (v : Thrown) (l : Local) → open_strays l ≤ 0 → InOrder (enter_handler h v l)
+enter_handler-order : (h : Handler) (v : Thrown) (l : Local) → open_strays l ≤ 0 → InOrder (enter_handler h v l)
 enter_handler-order h v l known = catch_in-order h.slot v (pushed (Scope [] (h.body ∷ [])) (pushed Handled (record l { handled = v ∷ l.handled }))) (omega (arith, known))
 
-pub caught_by-order : (v : Thrown) (l : Local) (o : Option Handler) → open_strays l ≤ 0 → InOrder (caught_by v l o)
+caught_by-order : (v : Thrown) (l : Local) (o : Option Handler) → open_strays l ≤ 0 → InOrder (caught_by v l o)
 caught_by-order v l None known = omega (arith, known)
 caught_by-order v l (Some h) known = enter_handler-order h v l (omega (arith, known))
 

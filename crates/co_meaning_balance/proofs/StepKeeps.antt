@@ -40,11 +40,11 @@ module _ (number item limit owed : ℕ) where
   operand-keeps o given [] at l order known = operate-keeps number item limit owed o given at l order known
   operand-keeps o given (e ∷ rest) at l order known = known
 
-  pub result_ends-keeps : (o : Option Place) (going : Going) (l : Local) → Kept number item limit owed l → Keeps number item limit owed (result_ends o going l)
+  result_ends-keeps : (o : Option Place) (going : Going) (l : Local) → Kept number item limit owed l → Keeps number item limit owed (result_ends o going l)
   result_ends-keeps None going l known = known
   result_ends-keeps (Some p) going l known = ends-keeps number item limit owed (EndsPart p ∷ []) (Goes going) l (known.0, known.1, let enough = known.2 in omega (arith, enough))
 
-  pub receive-keeps : (f : Frame) (g : Given) (l : Local) → frame_strays l.top.coroutine (frames_hold l.top.coroutine l.top.frames) (frames_inner l.top.frames) f + local_strays l ≤ 0 → Kept number item limit owed (pushed f l) → Keeps number item limit owed (receive f g l)
+  receive-keeps : (f : Frame) (g : Given) (l : Local) → frame_strays l.top.coroutine (frames_hold l.top.coroutine l.top.frames) (frames_inner l.top.frames) f + local_strays l ≤ 0 → Kept number item limit owed (pushed f l) → Keeps number item limit owed (receive f g l)
   receive-keeps (FieldOf k) g l order known = on_place-keeps (λ p. gives (At (field_of_place p k)) l) g (λ p. known)
   receive-keeps (Referent at) g l order known = dereferenced-keeps number item limit owed g at l known
   receive-keeps AddressOf g l order known = on_place-keeps (λ p. gives (Scalar (pointer p)) l) g (λ p. known)
@@ -118,7 +118,7 @@ module _ (number item limit owed : ℕ) where
   call_on-keeps : (call : Call) (l : Local) → local_strays l ≤ 0 → Kept number item limit owed l → Keeps number item limit owed (call_on call l)
   call_on-keeps call l order known = call_next-keeps call l call.rest order known
 
-  pub pass-keeps : (f : Frame) (l : Local) → frame_strays l.top.coroutine (frames_hold l.top.coroutine l.top.frames) (frames_inner l.top.frames) f + local_strays l ≤ 0 → Kept number item limit owed (pushed f l) → Keeps number item limit owed (pass f l)
+  pass-keeps : (f : Frame) (l : Local) → frame_strays l.top.coroutine (frames_hold l.top.coroutine l.top.frames) (frames_inner l.top.frames) f + local_strays l ≤ 0 → Kept number item limit owed (pushed f l) → Keeps number item limit owed (pass f l)
   pass-keeps Joined l order known = known
   pass-keeps (TempMade slot x) l order known = temporary_made-keeps number item limit owed slot x l known
   pass-keeps (Operands o given rest at) l order known = operand-keeps o given rest at l (omega (arith, order)) known
@@ -154,11 +154,11 @@ module _ (number item limit owed : ℕ) where
   pass-keeps Unhandled l order known = final_await-keeps number item limit owed l known
   pass-keeps f l order known = tt
 
-  pub constructor_left-keeps : (p : Place) (built : ℕ) (going : Going) (l : Local) → Kept number item limit owed l → Keeps number item limit owed (constructor_left p built going l)
+  constructor_left-keeps : (p : Place) (built : ℕ) (going : Going) (l : Local) → Kept number item limit owed l → Keeps number item limit owed (constructor_left p built going l)
   constructor_left-keeps p built (Throwing v) l known = fields_end-keeps number item limit owed p built (Goes (Throwing v)) l known
   constructor_left-keeps p built going l known = known
 
-  pub leave-keeps : (f : Frame) (going : Going) (l : Local) → frame_strays l.top.coroutine (frames_hold l.top.coroutine l.top.frames) (frames_inner l.top.frames) f + local_strays l ≤ 0 → Kept number item limit owed (pushed f l) → Keeps number item limit owed (leave f going l)
+  leave-keeps : (f : Frame) (going : Going) (l : Local) → frame_strays l.top.coroutine (frames_hold l.top.coroutine l.top.frames) (frames_inner l.top.frames) f + local_strays l ≤ 0 → Kept number item limit owed (pushed f l) → Keeps number item limit owed (leave f going l)
   leave-keeps (TempMade slot x) going l order known = abandon-keeps number item limit owed x.object (Goes going) l known
   leave-keeps (ArgumentMade x) going l order known = abandon-keeps number item limit owed x (Goes going) l known
   leave-keeps (Declares x) going l order known = abandon-keeps number item limit owed x.object (Goes going) l known
@@ -188,7 +188,7 @@ module _ (number item limit owed : ℕ) where
   leave-keeps (Closes m b outcome) going l order known = (known.0, let fewer = fewer-without number item limit owed m (frames_hold (Some number) l.top.frames) in let once = known.1 in omega (arith, fewer, once), known.2)
   leave-keeps f going l order known = known
 
-  pub come-keeps : (list : List Frame) (outcome : Outcome) (l : Local) → frames_stray l.top.coroutine list + rest_strays l ≤ 0 → Kept number item limit owed (with_frames list l) → Keeps number item limit owed (come list outcome l)
+  come-keeps : (list : List Frame) (outcome : Outcome) (l : Local) → frames_stray l.top.coroutine list + rest_strays l ≤ 0 → Kept number item limit owed (with_frames list l) → Keeps number item limit owed (come list outcome l)
   come-keeps [] outcome l order known = last_frame-keeps number item limit owed outcome (with_frames [] l) refl known
   come-keeps (f ∷ fs) (Gives g) l order known = receive-keeps f g (with_frames fs l) (omega (arith, order)) known
   come-keeps (f ∷ fs) Passes l order known = pass-keeps f (with_frames fs l) (omega (arith, order)) known

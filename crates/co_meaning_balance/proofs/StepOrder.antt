@@ -36,15 +36,15 @@ on_truth-order : (f : Bool → Option Turned) (g : Given) → ((b : Bool) → In
 on_truth-order f (Scalar (value.Number n z)) fits = fits (not (is_zero z))
 on_truth-order f g fits = tt
 
-pub operand-order : (o : Operation) (given : List Given) (list : List CoreExpr) (at : Span) (l : Local) → open_strays l ≤ 0 → InOrder (operand o given list at l)
+operand-order : (o : Operation) (given : List Given) (list : List CoreExpr) (at : Span) (l : Local) → open_strays l ≤ 0 → InOrder (operand o given list at l)
 operand-order o given [] at l known = operate-order o given at l (omega (arith, known))
 operand-order o given (e ∷ rest) at l known = omega (arith, known)
 
-pub result_ends-order : (o : Option Place) (going : Going) (l : Local) → local_strays l ≤ 0 → InOrder (result_ends o going l)
+result_ends-order : (o : Option Place) (going : Going) (l : Local) → local_strays l ≤ 0 → InOrder (result_ends o going l)
 result_ends-order None going l known = omega (arith, known)
 result_ends-order (Some p) going l known = ends-order (EndsPart p ∷ []) (Goes going) l (omega (arith, known))
 
-pub receive-order : (f : Frame) (g : Given) (l : Local) → frame_strays l.top.coroutine (frames_hold l.top.coroutine l.top.frames) (frames_inner l.top.frames) f + local_strays l ≤ 0 → InOrder (receive f g l)
+receive-order : (f : Frame) (g : Given) (l : Local) → frame_strays l.top.coroutine (frames_hold l.top.coroutine l.top.frames) (frames_inner l.top.frames) f + local_strays l ≤ 0 → InOrder (receive f g l)
 receive-order (FieldOf k) g l known = on_place-order (λ p. gives (At (field_of_place p k)) l) g (λ p. (omega (arith, known)))
 receive-order (Referent at) g l known = dereferenced-order g at l (omega (arith, known))
 receive-order AddressOf g l known = on_place-order (λ p. gives (Scalar (pointer p)) l) g (λ p. (omega (arith, known)))
@@ -118,7 +118,7 @@ call_next-order call l (i ∷ rest) known = argument-order (record call { rest =
 call_on-order : (call : Call) (l : Local) → call_needs (needs l.top.coroutine (frames_hold l.top.coroutine l.top.frames)) call.rest + local_strays l ≤ 0 → InOrder (call_on call l)
 call_on-order call l known = call_next-order call l call.rest known
 
-pub pass-order : (f : Frame) (l : Local) → frame_strays l.top.coroutine (frames_hold l.top.coroutine l.top.frames) (frames_inner l.top.frames) f + local_strays l ≤ 0 → InOrder (pass f l)
+pass-order : (f : Frame) (l : Local) → frame_strays l.top.coroutine (frames_hold l.top.coroutine l.top.frames) (frames_inner l.top.frames) f + local_strays l ≤ 0 → InOrder (pass f l)
 pass-order Joined l known = omega (arith, known)
 pass-order (TempMade slot x) l known = temporary_made-order slot x l (omega (arith, known))
 pass-order (Operands o given rest at) l known = operand-order o given rest at l (omega (arith, known))
@@ -154,11 +154,11 @@ pass-order (Guards resumed) l known = final_await-order l (omega (arith, known))
 pass-order Unhandled l known = final_await-order l (omega (arith, known))
 pass-order f l known = tt
 
-pub constructor_left-order : (p : Place) (built : ℕ) (going : Going) (l : Local) → open_strays l ≤ 0 → InOrder (constructor_left p built going l)
+constructor_left-order : (p : Place) (built : ℕ) (going : Going) (l : Local) → open_strays l ≤ 0 → InOrder (constructor_left p built going l)
 constructor_left-order p built (Throwing v) l known = ends-order (fields_end p built) (Goes (Throwing v)) l (omega (arith, known))
 constructor_left-order p built going l known = omega (arith, known)
 
-pub leave-order : (f : Frame) (going : Going) (l : Local) → frame_strays l.top.coroutine (frames_hold l.top.coroutine l.top.frames) (frames_inner l.top.frames) f + local_strays l ≤ 0 → InOrder (leave f going l)
+leave-order : (f : Frame) (going : Going) (l : Local) → frame_strays l.top.coroutine (frames_hold l.top.coroutine l.top.frames) (frames_inner l.top.frames) f + local_strays l ≤ 0 → InOrder (leave f going l)
 leave-order (TempMade slot x) going l known = abandon-order x.object (Goes going) l (omega (arith, known))
 leave-order (ArgumentMade x) going l known = abandon-order x (Goes going) l (omega (arith, known))
 leave-order (Declares x) going l known = abandon-order x.object (Goes going) l (omega (arith, known))
@@ -187,7 +187,7 @@ leave-order (Guards resumed) going l known = guard_left-order resumed going l (o
 leave-order Unhandled going l known = unhandled_left-order going l (omega (arith, known))
 leave-order f going l known = omega (arith, known)
 
-pub come-order : (list : List Frame) (outcome : Outcome) (l : Local) → frames_stray l.top.coroutine list + rest_strays l ≤ 0 → InOrder (come list outcome l)
+come-order : (list : List Frame) (outcome : Outcome) (l : Local) → frames_stray l.top.coroutine list + rest_strays l ≤ 0 → InOrder (come list outcome l)
 come-order [] outcome l known = last_frame-order outcome (with_frames [] l) (omega (arith, known))
 come-order (f ∷ fs) (Gives g) l known = receive-order f g (with_frames fs l) (omega (arith, known))
 come-order (f ∷ fs) Passes l known = pass-order f (with_frames fs l) (omega (arith, known))

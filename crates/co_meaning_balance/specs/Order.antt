@@ -29,6 +29,7 @@ frames_hold c (f ∷ fs) = frame_holds c f (frames_hold c fs)
 
 -- ---- what has to stand above a frame that holds the coroutine
 
+-- 1 where there is none, else 0
 abbrev pub lacks : ℕ → ℕ
 lacks zero = 1
 lacks (suc held) = 0
@@ -58,8 +59,10 @@ abbrev pub frames_inner : List Frame → ℕ
 frames_inner [] = 0
 frames_inner (f ∷ fs) = frame_inner f (frames_inner fs)
 
--- How much is wrong with a frame of a coroutine that stands above frames of which `held` hold the coroutine and `inner` stand inside
--- of the function. Those that make no objects may stand anywhere, and below one that holds a coroutine the function ends.
+-- How much is wrong with a frame of the coroutine c, if there is one, above frames of which `held` hold c and `inner` do not stand
+-- around the whole function: 0 where it may stand there. A frame that makes no objects may stand anywhere, and one that makes some
+-- above a frame that holds c. Below such a frame, below the first frames of a ramp and below the frame that awaits what
+-- `await_suspend` gives there are only frames around the whole function.
 abbrev pub frame_strays : Option ℕ → (held inner : ℕ) → Frame → ℕ
 frame_strays c held inner (Holds hold) = is_other c hold.coroutine + inner
 frame_strays c held inner (Closes m block outcome) = is_other c m + inner
@@ -85,7 +88,7 @@ abbrev pub frames_stray : Option ℕ → List Frame → ℕ
 frames_stray c [] = 0
 frames_stray c (f ∷ fs) = frame_strays c (frames_hold c fs) (frames_inner fs) f + frames_stray c fs
 
--- the same of what is done above the frames
+-- of what is done above the frames
 abbrev pub doing_strays : Option ℕ → (held inner : ℕ) → Doing → ℕ
 doing_strays c held inner Idle = 0
 doing_strays c held inner (Opens marks d) = doing_strays c held inner d

@@ -8,11 +8,13 @@ use Rattle.co_meaning_data.specs.declared.events.Event.TheVariants as event
 use Rattle.co_meaning.specs.Balanced.{births_in, deaths}
 use Rattle.co_meaning_balance.specs.Order.{frames_hold, one_more}
 
+-- 1 where there are some, else 0
 abbrev pub present : ℕ → ℕ
 present zero = 0
 present (suc held) = 1
 
--- Of the coroutine n and the object x: each place that keeps x alive as an object of n counts where a frame below it holds n.
+-- Of the coroutine n and the object x: each place that keeps x alive as an object of n counts k, which is 1 where a frame of the same
+-- list holds n there or below, else 0.
 module _ (n x : ℕ) where
   abbrev pub seen_alive : ℕ → Option ℕ → ℕ → ℕ
   seen_alive k None y = 0
@@ -141,10 +143,12 @@ module _ (n x : ℕ) where
     KeptWith more l =
         Balances (activations_hold (l.top ∷ l.below) + coroutine_tokens (numbered l.shared.coroutines n)) (more + (activations_alive (l.top ∷ l.below) + coroutine_alive (numbered l.shared.coroutines n))) l.seen
 
+    -- the activations
     abbrev pub Kept : Local → Type 0
     Kept l =
         Balances (activations_hold (l.top ∷ l.below) + coroutine_tokens (numbered l.shared.coroutines n)) (activations_alive (l.top ∷ l.below) + coroutine_alive (numbered l.shared.coroutines n)) l.seen
 
+    -- a step that there is
     abbrev pub Keeps : Option Turned → Type 0
     Keeps None = Unit {0}
     Keeps (Some t) = Balances (agent_tokens t.agent (coroutine_tokens (numbered t.shared.coroutines n))) (agent_alive t.agent (coroutine_alive (numbered t.shared.coroutines n))) t.seen
