@@ -1,0 +1,5 @@
+pub mod Expressions
+pub mod Laws
+pub mod Runs
+pub mod Spells
+pub mod Takes

@@ -1,0 +1,13 @@
+pub mod Blocks
+pub mod Initializers
+pub mod LeftOut
+pub mod Locals
+pub mod Names
+pub mod Opening
+pub mod Parts
+pub mod Pieces
+pub mod Plain
+pub mod RulesOfStatements
+pub mod Shorts
+pub mod Statements
+pub mod Words
