@@ -197,7 +197,7 @@ module _ (C : List (List ℕ)) (depth : ℕ) (reads : ReadsMembers C depth (memb
         derives = record { formed = f; reads = spells_reads (tree.items ds ++ line ∷ token kind.End ∷ []) tokens (spells_append (tree.items ds) (line ∷ token kind.End ∷ []) tokens left [] s (refl, refl)) };
       }
 
-  pub tree_read : (tokens : List Token) → length tokens ≤ suc depth → Runs C start tokens → TreeRead tokens
+  tree_read : (tokens : List Token) → length tokens ≤ suc depth → Runs C start tokens → TreeRead tokens
   unfolding declarations
   tree_read tokens b h =
       let t = items_on (length tokens) [] tokens (omega arith) b (next h) in

@@ -13,7 +13,6 @@ use Rattle.co_tree.specs.declared.declarations.AccessSpecifier.{AccessSpecifier}
 use Rattle.co_tree.specs.declared.declarations.AccessSpecifier.TheVariants as access
 use Rattle.co_tree.specs.declared.declarations.MemberDeclaration.{MemberDeclaration}
 use Rattle.co_tree.specs.declared.declarations.MemberDeclaration.TheVariants as member_of
-use Rattle.co_tree.specs.declared.declarations.FunctionSpecifier.{FunctionSpecifier}
 use Rattle.co_tree.specs.declared.declarations.FunctionSpecifier.TheVariants as specifier_of
 use Rattle.co_tree.specs.Declarations as tree
 use Rattle.co_tree.specs.Derives.{StandsAt}
@@ -45,14 +44,6 @@ access_key : (s : AccessSpecifier) → class_key (l.Word (tree.access_word s)) �
 access_key access.Public = refl
 access_key access.Private = refl
 access_key access.Protected = refl
-
-specifier_key : (s : FunctionSpecifier) → class_key (l.Word (tree.specifier_word s)) ≡ None
-specifier_key specifier_of.Static = refl
-specifier_key specifier_of.Inline = refl
-
-specifier_access : (s : FunctionSpecifier) → access_specifier (l.Word (tree.specifier_word s)) ≡ None
-specifier_access specifier_of.Static = refl
-specifier_access specifier_of.Inline = refl
 
 name_spelled : {C : List (List ℕ)} {R : List Symbol} {ts : List Token} → Runs C (Terminal pattern.Name ∷ One n.ConstructorRest ∷ R) ts → Runs C (Terminal pattern.Name ∷ Constructs R) ts
 name_spelled {C} {R} (read_token p _ t ts a few r) = elim (which those_constructor_rest r) [ inl h ↦ read_token p (Constructs R) t ts a few h | inr h ↦ absurd h ]

@@ -56,7 +56,7 @@ unnamed_among (inl (inl h)) = unnamed mark.Comma (mark_first h)
 unnamed_among (inl (inr h)) = absurd h
 unnamed_among (inr h) = unnamed mark.CloseParen (mark_first h.1)
 
-pub name_if_taken : {C : List (List ℕ)} {R : List Symbol} {ts : List Token} → (Runs C R ts → name_if ts ≡ Some (None, ts)) → Runs C (Maybe n.ParameterName ∷ R) ts → NameIfTaken C R ts
+name_if_taken : {C : List (List ℕ)} {R : List Symbol} {ts : List Token} → (Runs C R ts → name_if ts ≡ Some (None, ts)) → Runs C (Maybe n.ParameterName ∷ R) ts → NameIfTaken C R ts
 name_if_taken {C} {R} {ts} f h =
     elim (whether those_parameter_name h) [
       | inl q ↦ elim q [ inl s ↦ name_said (name_first s) | inr s ↦ absurd s ]
@@ -69,7 +69,7 @@ module _ (C : List (List ℕ)) where
   abbrev pub ParameterTaken : List Symbol → List Token → Type 0
   ParameterTaken R ts = Takes (parameter (is_class C)) (λ p left. Spells (tree_part.parameter p) ts left × FormedParameter C p) C R ts
 
-  pub parameter_taken : (R : List Symbol) (ts : List Token) → ((us : List Token) → Runs C R us → name_if us ≡ Some (None, us)) → Runs C (One n.TypeId ∷ Maybe n.ParameterName ∷ R) ts → ParameterTaken R ts
+  parameter_taken : (R : List Symbol) (ts : List Token) → ((us : List Token) → Runs C R us → name_if us ≡ Some (None, us)) → Runs C (One n.TypeId ∷ Maybe n.ParameterName ∷ R) ts → ParameterTaken R ts
   unfolding parameter
   parameter_taken R ts f h =
       let t = type_taken h in
@@ -107,7 +107,7 @@ module _ (C : List (List ℕ)) where
   unfolding parameters_from
   no_more k R found ts h r = no_turn ts (rw (h, after-left mark.Comma ts h) refl) refl r
 
-  pub parameters_turn : (k : ℕ) (R : List Symbol) (found : List Parameter) (ts : List Token) → length ts ≤ k → Runs C (Behind R) ts → ParametersTurn k R found ts
+  parameters_turn : (k : ℕ) (R : List Symbol) (found : List Parameter) (ts : List Token) → length ts ≤ k → Runs C (Behind R) ts → ParametersTurn k R found ts
   parameters_turn k R found ts b h = on k found ts b (again those_next_parameter h)
     where
       on : (k : ℕ) (found : List Parameter) (ts : List Token) → length ts ≤ k → Among C (Behind R) of_next_parameter ts ⊎ (NoneNext C of_next_parameter ts × Runs C (Terminal (pattern.Punctuator mark.CloseParen) ∷ R) ts) → ParametersTurn k R found ts

@@ -14,7 +14,7 @@ use Rattle.co_tree.specs.Formed.{PlainKind, ResultType}
 use Rattle.co_reader.specs.declared.lead.Lead.{Lead}
 use Rattle.co_reader.specs.Reading.{lead, is_word, sees_word, after_word}
 use Rattle.co_statements.specs.Statements.{auto_type}
-use Rattle.co_parse.specs.Declarations.{specifier, class_key, access_specifier, is_auto, result_type}
+use Rattle.co_parse.specs.Declarations.{specifier, class_key, is_auto, result_type}
 use Rattle.co_reads.specs.Runs.{Runs}
 use Rattle.co_reads.specs.Spells.{Spells}
 use Rattle.co_reads.specs.Takes.{Takes}
@@ -26,7 +26,7 @@ use Rattle.co_reads_declarations.proofs.Typed.{TypeLead, constant, void_type, bo
 
 -- ---- what a type begins with
 
-pub no_auto : (k : Lead) → TypeLead k → is_word word.Auto k ≡ false
+no_auto : (k : Lead) → TypeLead k → is_word word.Auto k ≡ false
 no_auto k constant = refl
 no_auto k void_type = refl
 no_auto k bool_type = refl
@@ -49,14 +49,6 @@ no_key k bool_type = refl
 no_key k int_type = refl
 no_key k long_type = refl
 no_key k some_name = refl
-
-pub no_access : (k : Lead) → TypeLead k → access_specifier k ≡ None
-no_access k constant = refl
-no_access k void_type = refl
-no_access k bool_type = refl
-no_access k int_type = refl
-no_access k long_type = refl
-no_access k some_name = refl
 
 -- a type that is no `auto`
 pub plain_kind : (C : List (List ℕ)) (k : SimpleTypeKind) → PlainKind C k → is_auto k ≡ false

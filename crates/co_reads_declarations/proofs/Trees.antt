@@ -19,7 +19,7 @@ use Rattle.co_covers.proofs.Files.{each_tree_is_a_file}
 use Rattle.co_parse.specs.declared.fault.ParseFault.{ParseFault}
 use Rattle.co_parse.specs.Parse.{placed, parsed_by, parsed}
 use Rattle.co_reads.proofs.Machine.{scanned_runs}
-use Rattle.co_reads_declarations.specs.Laws.{Parses, AnswersDerive, IsNoSyntaxFault, RefusesNoTree}
+use Rattle.co_reads_declarations.specs.Laws.{Parses, AnswersDerive, IsNoSyntaxFault, RefusesNoTree, SyntaxFaultsAreOfNoTree}
 use Rattle.co_reads_declarations.proofs.Files.{built_read}
 
 pub parses : Parses
@@ -93,3 +93,9 @@ refuses_no_tree tokens tree d = on (scanned tokens) refl
     on (Err (fault.Syntax at)) e = absurd (no_syntax_fault tokens at (each_tree_is_a_file (classes tokens) tree tokens d) e)
     on (Err (fault.TooDeep at)) e = subst IsNoSyntaxFault (sym (ap (parsed_by tokens) e)) tt
     on (Err fault.NoMemory) e = absurd (no_memory tokens e)
+
+pub syntax_faults_are_of_no_tree : SyntaxFaultsAreOfNoTree
+unfolding parsed
+syntax_faults_are_of_no_tree tokens at e =
+    let p = syntax_is_first tokens at e in
+    (ap (parsed_by tokens) e, (λ before tree more d. p.2 before (more, each_tree_is_a_file (classes tokens) tree _ d)), (λ last tree d. p.3 last (each_tree_is_a_file (classes tokens) tree tokens d)))

@@ -33,14 +33,14 @@ use Rattle.co_reads.proofs.Those.{those}
 
 -- ---- a word that may stand
 
-pub sees_word_here : (x : Word) (at : Span) (ts : List Token) → sees_word x (record { kind = kind.Word x; span = at } ∷ ts) ≡ true
+sees_word_here : (x : Word) (at : Span) (ts : List Token) → sees_word x (record { kind = kind.Word x; span = at } ∷ ts) ≡ true
 unfolding sees_word
 sees_word_here x at ts = true_eq (word_number x) (word_number x) refl
 
 word_said : {C : List (List ℕ)} {R : List Symbol} {ts : List Token} (x : Word) → Worded C x R ts → Runs C R (after_word x ts)
 word_said {C} {R} x (worded at ts r) = subst (λ u. Runs C R u) (sym (after_word-eaten x (record { kind = kind.Word x; span = at } ∷ ts) (sees_word_here x at ts))) r
 
-pub unseen_next : (C : List (List ℕ)) (N : Nonterminal) (x : Word) (ts : List Token) → NoneNext C (rule N (pattern.Keyword x) [] ∷ []) ts → sees_word x ts ≡ false
+unseen_next : (C : List (List ℕ)) (N : Nonterminal) (x : Word) (ts : List Token) → NoneNext C (rule N (pattern.Keyword x) [] ∷ []) ts → sees_word x ts ≡ false
 unseen_next C N x [] h = absurd h
 unseen_next C N x (t ∷ ts) h = refused_word C x t ts (h.0 (usable (has_some C)))
 

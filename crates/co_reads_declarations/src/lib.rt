@@ -6,4 +6,4 @@ mod laws;
 #[cfg(test)]
 mod tests;
 
-pub use laws::{answers_derive, parses, refuses_no_tree};
+pub use laws::{answers_derive, parses, refuses_no_tree, syntax_faults_are_of_no_tree};
