@@ -56,9 +56,26 @@ fn kinds(alloc: Global, tokens: &[Token]) -> Result<String, Fail> {
     Ok(line)
 }
 
-/// The canonical text of the tree.
-fn printed(alloc: Global, tokens: &[Token]) -> Result<Vec<u8>, Fail> {
-    match parse(alloc, tokens) {
+/// The kinds of the tokens of a text.
+fn told(alloc: Global, text: &[u8]) -> Result<String, Fail> {
+    if 1048576 < text.len() {
+        return Ok(format!(in alloc; "too long")?);
+    }
+    let Ok(tokens) = lex(alloc, text) else {
+        return Ok(format!(in alloc; "no tokens")?);
+    };
+    kinds(alloc, tokens.as_slice())
+}
+
+/// The canonical text of a text's tree; nothing where it has none.
+fn printed(alloc: Global, text: &[u8]) -> Result<Vec<u8>, Fail> {
+    if 1048576 < text.len() {
+        return Ok(Vec::new(alloc));
+    }
+    let Ok(tokens) = lex(alloc, text) else {
+        return Ok(Vec::new(alloc));
+    };
+    match parse(alloc, tokens.as_slice()) {
         Ok(tree) => match print_tree(alloc, &tree) {
             Ok(text) => Ok(text),
             Err(_) => Ok(Vec::new(alloc)),
@@ -69,19 +86,11 @@ fn printed(alloc: Global, tokens: &[Token]) -> Result<Vec<u8>, Fail> {
 
 /// Whether the tree has the tokens that it was read from.
 fn is_read(rt: &impl Abort, alloc: Global, text: &[u8]) -> Result<(), Fail> {
-    let Ok(tokens) = lex(alloc, text) else {
-        assert!(rt; false, "no tokens: {text:?}");
-        return Ok(());
-    };
-    let canonical = printed(alloc, tokens.as_slice())?;
-    let Ok(again) = lex(alloc, canonical.as_slice()) else {
-        assert!(rt; false, "not printed: {text:?}");
-        return Ok(());
-    };
-    let first = kinds(alloc, tokens.as_slice())?;
-    let second = kinds(alloc, again.as_slice())?;
+    let canonical = printed(alloc, text)?;
+    let first = told(alloc, text)?;
+    let second = told(alloc, canonical.as_slice())?;
     assert!(rt; first == second, "{first} and {second}");
-    let twice = printed(alloc, again.as_slice())?;
+    let twice = printed(alloc, canonical.as_slice())?;
     assert!(rt; canonical == twice, "at {text:?}");
     Ok(())
 }
