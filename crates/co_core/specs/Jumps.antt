@@ -1,5 +1,5 @@
 -- Where statements and awaits may stand, and their suspension points.
-use Rattle.std.specs.Prelude.{Bool, true, not, ◌||◌, ◌&&◌, ◌==◌, List, [], ◌∷◌, ◌++◌, Option, None, Some, is_some}
+use Rattle.std.specs.Prelude.{Bool, true, not, ◌||◌, ◌&&◌, ◌==◌, nat_le, List, [], ◌∷◌, ◌++◌, Option, None, Some, is_some}
 use Rattle.std.specs.List.{list_all, list_any}
 use Rattle.co_base.specs.declared.ids.SuspendId.{SuspendId}
 use Rattle.co_core_tree.specs.declared.stmts.CoreStmt.{CoreStmt}
@@ -68,12 +68,12 @@ abbrev pub func_points : List CoreFunc → CoreFunc → List SuspendId
 func_points funcs func = plan_points func.plan ++ points (func_acts funcs func)
 
 abbrev pub is_free_point : SuspendId → Bool
-is_free_point point = not (point.0 == 2)
+is_free_point point = not (point.0 == 2) && nat_le point.0 65534
 
 abbrev pub func_points_differ : List CoreFunc → CoreFunc → Bool
 func_points_differ funcs func = distinct_points (func_points funcs func) && list_all is_free_point (func_points funcs func)
 
--- The points of a function's awaits are different, and none is 2, at which a coroutine is suspended that an exception of
+-- The points of a function's awaits are different and below 65,535, and none is 2, at which a coroutine is suspended that an exception of
 -- `unhandled_exception` has left [dcl.fct.def.coroutine].
 abbrev pub points_differ : UnitParts → Bool
 points_differ unit = list_all (func_points_differ unit.funcs) unit.funcs

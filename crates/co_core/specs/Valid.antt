@@ -21,7 +21,7 @@ pub record IsValid (unit : UnitParts) : Type 0 where
   pub scopes : IsTrue (all_visible unit)
   -- `Break` and `Continue` stand in a `Loop`, an `Await` in a function with a plan
   pub jumps : IsTrue (jumps_placed unit)
-  -- the points of a function's awaits are different, and none is 2
+  -- the points of a function's awaits are different and below 65,535, and none is 2
   pub points : IsTrue (points_differ unit)
   -- each destructor and each function that releases storage is noexcept
   pub ends : IsTrue (ends_noexcept unit)

@@ -9,5 +9,6 @@ mod walk;
 mod wholes;
 
 pub use checked::Checked;
-pub use walk::{Scene, check, check_await, fields_fit, init_fits};
+pub use tables::{class_info, func_at, is_plain, is_thrown_class, slot_of, slot_type};
+pub use walk::{Scene, after_this, check, check_await, fields_fit, init_fits};
 pub use wholes::Wholes;

@@ -247,7 +247,7 @@ fn constructor_fits(
 
 /// Whether the arguments fit the parameters but for the first, which refers to the object that is constructed.
 #[cycle(typing)]
-fn after_this(scene: Scene<'_>, args: &[Init], callee: &CoreFunc, wholes: &Wholes<'_>) -> bool
+pub fn after_this(scene: Scene<'_>, args: &[Init], callee: &CoreFunc, wholes: &Wholes<'_>) -> bool
     ensures { result ≡ arguments_typed scene.entry.unit.now scene.entry.func.now (wholes_of wholes.now) (table.after_first (table.param_types callee.now)) args.now }
 {
     match callee.params.as_slice() {
