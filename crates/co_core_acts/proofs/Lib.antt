@@ -1,0 +1,6 @@
+mod Forms
+mod Lists
+mod Loops
+mod Orders
+mod Parts
+mod Statements

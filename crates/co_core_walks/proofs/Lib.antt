@@ -1,0 +1,4 @@
+mod Forms
+mod Loops
+mod Opening
+mod Statements
