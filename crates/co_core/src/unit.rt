@@ -1,7 +1,10 @@
-ghost use Rattle.std.specs.Prelude.{◌≡◌};
+ghost use Rattle.std.specs.Prelude.{◌≡◌, IfOk};
 ghost use Rattle.co_core.specs.Valid.{IsValid};
 
+use co_base::NoMemory;
+use co_core_copy::copy;
 use co_core_tree::UnitParts;
+use std::alloc::Global;
 use std::marker::Model;
 
 /// A program in which each conversion, construction, scope and implicit call is written out, and which is valid. Contracts
@@ -45,5 +48,13 @@ impl Unit {
         ensures valid { IsValid result.now }
     {
         &self.parts
+    }
+
+    /// The same unit, in memory of its own.
+    pub fn copy(&self, alloc: Global) -> Result<Unit, NoMemory>
+        ensures { IfOk result (λ copied. copied ≡ self.now) }
+    {
+        let parts = copy(alloc, &self.parts)?;
+        Ok(Unit::new(parts))
     }
 }
