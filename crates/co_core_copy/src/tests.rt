@@ -144,7 +144,7 @@ fn a_copy_has_the_same_functions(rt: HostRuntime) -> Result<(), Fail> {
     match copied.funcs.as_slice() {
         [func] => {
             assert!(rt; func.noexcept);
-            assert!(rt; func.name.as_slice() == b"main");
+            assert!(rt; func.name.as_slice() == b"main".as_slice());
             assert!(rt; func.slots.len() == 1);
             assert!(rt; constructs(&func.role, 2, 2));
         }
@@ -168,7 +168,7 @@ fn a_copy_has_the_same_tables(rt: HostRuntime) -> Result<(), Fail> {
         _ => assert!(rt; false),
     }
     match copied.texts.as_slice() {
-        [text] => assert!(rt; text.as_slice() == b"hello"),
+        [text] => assert!(rt; text.as_slice() == b"hello".as_slice()),
         _ => assert!(rt; false),
     }
     Ok(())
