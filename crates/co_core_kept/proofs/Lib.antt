@@ -1,0 +1,4 @@
+mod Loops
+mod Counting
+mod Marking
+mod Matching

@@ -1,0 +1,4 @@
+mod Loops
+mod Marking
+mod Naming
+mod Room

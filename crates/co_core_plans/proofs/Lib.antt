@@ -1,0 +1,5 @@
+mod Acts
+mod Classes
+mod Named
+mod Opening
+mod Params

@@ -1,0 +1,10 @@
+mod Around
+mod Forms
+mod Loops
+mod Marks
+mod Members
+mod Nested
+mod Noted
+mod Openings
+mod Phases
+mod Small

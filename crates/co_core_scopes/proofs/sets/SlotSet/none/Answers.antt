@@ -1,0 +1,5 @@
+use Rattle.co_core_scopes.proofs.Marks.{none_in}
+use Rattle.co_core_scopes.proofs.sets.SlotSet.none.Goals as goal
+
+pub returns-clause-none : goal.returns-clause-none
+returns-clause-none c = λ k. none_in 4096 k

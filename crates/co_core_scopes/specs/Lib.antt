@@ -1,0 +1,4 @@
+pub mod Makes
+pub mod Points
+pub mod Scoped
+pub mod Sets

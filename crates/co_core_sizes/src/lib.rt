@@ -1,0 +1,11 @@
+//! Whether no class contains itself, and no class and no function is too large.
+#![tactic(auto)]
+
+mod nesting;
+mod statements;
+#[cfg(test)]
+mod tests;
+mod words;
+
+pub use nesting::classes_nest;
+pub use words::sizes_fit;
