@@ -4,6 +4,8 @@
 mod funcs;
 mod slots;
 mod stmts;
+#[cfg(test)]
+mod tests;
 mod units;
 
 pub use units::all_typed;
