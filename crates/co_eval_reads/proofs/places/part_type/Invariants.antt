@@ -1,0 +1,9 @@
+use Rattle.std.specs.Prelude.{◌≡◌, Some, length}
+use Rattle.co_meaning_data.specs.Store.{part_type}
+use Rattle.co_eval_reads.proofs.places.part_type.Given as goal
+
+abbrev pub invariant-loop-rest : goal.invariant-loop-rest
+invariant-loop-rest l = part_type l.classes (Some l.part) l.rest ≡ part_type l.classes (Some l.of) l.path
+
+abbrev pub decreases-loop-rest : goal.decreases-loop-rest
+decreases-loop-rest l = length l.rest
