@@ -1,4 +1,5 @@
 -- Values whose paths are borrowed.
+use Rattle.std.specs.Prelude.{ℕ, Option, None, Some}
 use Rattle.co_eval_reads.specs.declared.pointers.Address.{Address}
 use Rattle.co_eval_reads.specs.declared.pointers.Address.TheVariants as address
 use Rattle.co_meaning_data.specs.declared.values.Value.{Value}
@@ -15,3 +16,8 @@ value_of address.Noop = value.Noop
 value_of address.Null = value.Null
 value_of (address.Kind k) = value.Kind k
 value_of address.Empty = value.Empty
+
+-- the block that a pointer to it means
+abbrev pub block_in : Value → Option ℕ
+block_in (value.Block b) = Some b
+block_in v = None

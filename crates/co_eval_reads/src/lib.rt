@@ -24,5 +24,5 @@ pub use objects::{
     block_at, coroutine_in, handled, is_ended, is_live, newest, next_block, next_object, object_at,
     standing_in,
 };
-pub use places::{cell_at, offset_at, type_at, words, words_of};
-pub use pointers::is_same;
+pub use places::{cell_at, fields, offset_at, type_at, words, words_of};
+pub use pointers::{block_addressed, is_same};

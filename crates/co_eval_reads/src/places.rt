@@ -75,6 +75,15 @@ fn fields_of<'u>(classes: &'u ClassTable, of: &CoType) -> &'u [FieldInfo]
     }
 }
 
+/// The fields of the objects of a type, of which there are none where it is no class.
+#[tactic(auto, unfolding(co_eval_data::specs::Agents::local_of))]
+pub fn fields<'u>(here: &Here<'_, 'u>, of: &CoType) -> &'u [FieldInfo]
+    ensures { result.now ≡ store.fields_of (turn.classes (local_of here.now)) of.now }
+{
+    let unit = here.program.unit;
+    fields_of(&unit.classes, of)
+}
+
 /// The type of the field of this number of the objects of a type.
 fn field_type<'u>(classes: &'u ClassTable, of: &CoType, field: u32) -> Option<&'u CoType>
     ensures { option_copied result ≡ store.part_step classes.now field (Some of.now) }

@@ -1,6 +1,6 @@
 ghost use Rattle.std.specs.Prelude.{◌≡◌, []};
 ghost use Rattle.co_eval_data.specs.Agents.{local_of};
-ghost use Rattle.co_eval_reads.specs.Addresses.{value_of};
+ghost use Rattle.co_eval_reads.specs.Addresses.{block_in, value_of};
 ghost use Rattle.co_meaning_calls.specs.Coroutines as coroutines;
 ghost use Rattle.co_meaning_data.specs.Store as store;
 ghost use Rattle.co_meaning_data.specs.Turn as turn;
@@ -126,6 +126,16 @@ pub(crate) fn address_of<'v>(here: &Here<'_, '_>, value: &'v Value) -> Address<'
         Value::Null => Address::Null,
         Value::Kind(of) => Address::Kind(*of),
         Value::Empty => Address::Empty,
+    }
+}
+
+/// The block at whose address a value is, if it is at one.
+pub fn block_addressed(here: &Here<'_, '_>, value: &Value) -> Option<u64>
+    ensures { result ≡ block_in (undefined.address_of (turn.store (local_of here.now)) (coroutines.coroutines (local_of here.now)) value.now) }
+{
+    match address_of(here, value) {
+        Address::Block(block) => Some(block),
+        _ => None,
     }
 }
 
