@@ -5,3 +5,4 @@ pub mod Falling
 pub mod Options
 pub mod Beside
 pub mod Same
+pub mod Tabled

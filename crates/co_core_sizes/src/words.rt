@@ -54,7 +54,7 @@ fn beside_head(
 
 /// The fields of each class are gone through once.
 #[cycle(words)]
-fn beside_class(
+pub(crate) fn beside_class(
     classes: &ClassTable,
     class: ClassId,
     depth: u32,

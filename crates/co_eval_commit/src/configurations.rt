@@ -21,7 +21,8 @@ use sqlite_items::Items;
 use std::alloc::Global;
 
 /// Makes the change of a step of the agent of a number, for which so many frames were taken away from its newest activation before
-/// it was decided. Where memory runs out, nothing has changed. An agent that is not there, or has no activation, makes no step.
+/// it was decided. Where memory runs out, nothing has changed. The agent is there and has an activation; of another nothing is
+/// said.
 pub fn commit<'u>(
     alloc: Global,
     config: &mut Configuration<'u>,

@@ -64,6 +64,6 @@ pub fn closes(shared: &mut Shared<'_>, number: u64, block: u64)
 pub fn posts(shared: &mut Shared<'_>, value: Value) -> Result<(), NoMemory>
     ensures { (l : Local) → MatchResult result (λ _. sharing shared.new l ≡ changed.effected (effect.Posts value) (sharing shared.old l)) (λ _. sharing shared.new l ≡ sharing shared.old l) }
 {
-    shared.posted.push(value)?;
+    shared.posted.push_back(value)?;
     Ok(())
 }

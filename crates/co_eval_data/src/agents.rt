@@ -6,6 +6,7 @@ use co_base::{FuncId, Span, Thrown};
 use co_core_tree::{Answer, AwaitPlan, CoreExpr, CoreStmt, GivePlan, Init};
 use co_meaning_data::{Event, Value};
 use sqlite_items::Items;
+use std::collections::VecDeque;
 
 /// What an agent does next.
 #[derive(Drop)]
@@ -107,7 +108,7 @@ pub struct Coroutine<'u> {
 pub struct Shared<'u> {
     pub store: Store<'u>,
     pub coroutines: Vec<Coroutine<'u>>,
-    pub posted: Vec<Value>,
+    pub posted: VecDeque<Value>,
     pub main: Option<i64>,
     pub undefined: bool,
 }

@@ -1,5 +1,5 @@
 -- One step of an agent: what it does next, or what comes to the frame on top.
-use Rattle.std.specs.Prelude.{ℕ, Bool, true, false, not, List, [], ◌∷◌, length, Option, None, Some}
+use Rattle.std.specs.Prelude.{ℕ, Bool, true, false, not, List, [], ◌∷◌, drop, length, Option, None, Some}
 use Rattle.co_base.specs.declared.span.Span.{Span}
 use Rattle.co_core_tree.specs.declared.exprs.CoreExpr.{CoreExpr}
 use Rattle.co_core_tree.specs.declared.exprs.Init.{Init}
@@ -33,7 +33,7 @@ on_truth f g = None
 
 abbrev pub operand : Operation → List Given → List CoreExpr → Span → Local → Option Turned
 operand o given [] at l = operate o given at l
-operand o given (e ∷ rest) at l = under (Operands o given rest at) (Evaluate e None) l
+operand o given (e ∷ rest) at l = under (Operands o given (e ∷ rest) at) (Evaluate e None) l
 
 abbrev pub result_ends : Option Place → Going → Local → Option Turned
 result_ends None going l = leaves going l
@@ -66,7 +66,7 @@ receive Joined g l = gives g l
 receive (ThrowOf of at) g l = throws of g at l
 receive (ThrowRead class) g l = leaves (Throwing (thrown_object class (values_given g))) l
 receive (RethrowOf at) g l = rethrow_parts g at l
-receive (Operands o given rest at) g l = operand o (g ∷ given) rest at l
+receive (Operands o given rest at) g l = operand o (g ∷ given) (drop 1 rest) at l
 receive (CompareAt p expected (Scalar desired) at) g l = on_scalar (λ wanted. compare p expected wanted desired at l) g
 receive (Calling call) g l = under (Calling (record call { given = g ∷ call.given })) (Comes Passes) l
 receive (Called objects) g l = call_returned objects (Gives g) l

@@ -1,6 +1,6 @@
 -- A step loses no object.
 use Rattle.std.proofs.Common.{ℕ, ◌+◌, ◌≤◌, List, [], ◌∷◌, Bool, true, false, Some, None, arith, refl}
-use Rattle.std.specs.Prelude.{not, Option}
+use Rattle.std.specs.Prelude.{drop, not, Option}
 use Rattle.co_base.specs.declared.span.Span.{Span}
 use Rattle.co_core_tree.specs.declared.exprs.CoreExpr.{CoreExpr}
 use Rattle.co_core_tree.specs.declared.exprs.Init.{Init}
@@ -70,7 +70,7 @@ module _ (number item limit owed : ℕ) where
   receive-keeps (ThrowOf of at) g l order known = throws-keeps number item limit owed of g at l known
   receive-keeps (ThrowRead class) g l order known = known
   receive-keeps (RethrowOf at) g l order known = rethrow_parts-keeps number item limit owed g at l known
-  receive-keeps (Operands o given rest at) g l order known = operand-keeps o (g ∷ given) rest at l (omega (arith, order)) known
+  receive-keeps (Operands o given rest at) g l order known = operand-keeps o (g ∷ given) (drop 1 rest) at l (omega (arith, order)) known
   receive-keeps (CompareAt p expected (Scalar desired) at) g l order known = on_scalar-keeps (λ wanted. compare p expected wanted desired at l) g (λ wanted. (compare-keeps number item limit owed p expected wanted desired at l known))
   receive-keeps (Calling call) g l order known = known
   receive-keeps (Called objects) g l order known = call_returned-keeps number item limit owed objects (Gives g) l known

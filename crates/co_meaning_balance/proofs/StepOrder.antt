@@ -1,6 +1,6 @@
 -- A step keeps the frames in order.
 use Rattle.std.proofs.Common.{ℕ, ◌+◌, ◌≤◌, List, [], ◌∷◌, Bool, true, false, Some, None, arith, refl}
-use Rattle.std.specs.Prelude.{not, Option}
+use Rattle.std.specs.Prelude.{drop, not, Option}
 use Rattle.co_base.specs.declared.span.Span.{Span}
 use Rattle.co_core_tree.specs.declared.exprs.CoreExpr.{CoreExpr}
 use Rattle.co_core_tree.specs.declared.exprs.Init.{Init}
@@ -70,7 +70,7 @@ receive-order Joined g l known = omega (arith, known)
 receive-order (ThrowOf of at) g l known = throws-order of g at l (omega (arith, known))
 receive-order (ThrowRead class) g l known = omega (arith, known)
 receive-order (RethrowOf at) g l known = rethrow_parts-order g at l (omega (arith, known))
-receive-order (Operands o given rest at) g l known = operand-order o (g ∷ given) rest at l (omega (arith, known))
+receive-order (Operands o given rest at) g l known = operand-order o (g ∷ given) (drop 1 rest) at l (omega (arith, known))
 receive-order (CompareAt p expected (Scalar desired) at) g l known = on_scalar-order (λ wanted. compare p expected wanted desired at l) g (λ wanted. (compare-order p expected wanted desired at l (omega (arith, known))))
 receive-order (Calling call) g l known = omega (arith, known)
 receive-order (Called objects) g l known = call_returned-order objects (Gives g) l (omega (arith, known))

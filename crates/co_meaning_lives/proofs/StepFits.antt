@@ -1,6 +1,6 @@
 -- A step of an agent keeps what is to come.
 use Rattle.std.proofs.Common.{ℕ, ◌+◌, ◌≤◌, List, [], ◌∷◌, Bool, true, false, Some, None, arith}
-use Rattle.std.specs.Prelude.{not, Option}
+use Rattle.std.specs.Prelude.{drop, not, Option}
 use Rattle.co_base.specs.declared.span.Span.{Span}
 use Rattle.co_core_tree.specs.declared.exprs.CoreExpr.{CoreExpr}
 use Rattle.co_core_tree.specs.declared.exprs.Init.{Init}
@@ -39,7 +39,7 @@ module _ (item raw on_birth on_death credit each : ℕ) (small : on_birth + on_d
 
   pub operand-fits : (limit : ℕ) (y0 : Operation) (y1 : List Given) (y2 : List CoreExpr) (y3 : Span) (y4 : Local) → local_weighs item raw on_birth on_death credit each y4 + each ≤ limit + credits item raw on_birth on_death credit each y4.seen → Fits item raw on_birth on_death credit each limit (operand y0 y1 y2 y3 y4)
   operand-fits limit o given [] at l known = (operate-fits item raw on_birth on_death credit each small limit o given at l (omega (arith, known)))
-  operand-fits limit o given (e ∷ rest) at l known = (under-fits item raw on_birth on_death credit each small limit (Operands o given rest at) (Evaluate e None) l (omega (arith, known)))
+  operand-fits limit o given (e ∷ rest) at l known = (under-fits item raw on_birth on_death credit each small limit (Operands o given (e ∷ rest) at) (Evaluate e None) l (omega (arith, known)))
 
   pub result_ends-fits : (limit : ℕ) (y0 : Option Place) (y1 : Going) (y2 : Local) → local_weighs item raw on_birth on_death credit each y2 + each ≤ limit + credits item raw on_birth on_death credit each y2.seen → Fits item raw on_birth on_death credit each limit (result_ends y0 y1 y2)
   result_ends-fits limit None going l known = (leaves-fits item raw on_birth on_death credit each small limit going l (omega (arith, known)))
@@ -71,7 +71,7 @@ module _ (item raw on_birth on_death credit each : ℕ) (small : on_birth + on_d
   receive-fits limit (ThrowOf of at) g l known = (throws-fits item raw on_birth on_death credit each small limit of g at l (omega (arith, known)))
   receive-fits limit (ThrowRead class) g l known = (leaves-fits item raw on_birth on_death credit each small limit (Throwing (thrown_object class (values_given g))) l (omega (arith, known)))
   receive-fits limit (RethrowOf at) g l known = (rethrow_parts-fits item raw on_birth on_death credit each small limit g at l (omega (arith, known)))
-  receive-fits limit (Operands o given rest at) g l known = (operand-fits limit o (g ∷ given) rest at l (omega (arith, known)))
+  receive-fits limit (Operands o given rest at) g l known = (operand-fits limit o (g ∷ given) (drop 1 rest) at l (omega (arith, known)))
   receive-fits limit (CompareAt p expected (Scalar desired) at) g l known = (on_scalar-fits limit (λ wanted. compare p expected wanted desired at l) g (λ wanted. (compare-fits item raw on_birth on_death credit each small limit p expected wanted desired at l (omega (arith, known)))))
   receive-fits limit (Calling call) g l known = (under-fits item raw on_birth on_death credit each small limit (Calling (record call { given = g ∷ call.given })) (Comes Passes) l (omega (arith, known)))
   receive-fits limit (Called objects) g l known = (call_returned-fits item raw on_birth on_death credit each small limit objects (Gives g) l (omega (arith, known)))
