@@ -1,0 +1,3 @@
+pub mod FullActs
+pub mod Fulls
+pub mod Unmade

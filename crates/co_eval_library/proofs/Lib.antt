@@ -1,0 +1,5 @@
+pub mod Numbers
+pub mod OfLibrary
+pub mod OnAtomics
+pub mod OnHandles
+pub mod Released
