@@ -1,0 +1,11 @@
+pub mod Beneath
+pub mod Begun
+pub mod Copied
+pub mod Filled
+pub mod Left
+pub mod Numbers
+pub mod OnTop
+pub mod Promised
+pub mod Slots
+pub mod Taken
+pub mod Tops
